@@ -1,0 +1,7 @@
+mod Packing
+pub mod Tables
+mod Parity
+mod Pairing
+mod Announced
+pub mod Reading
+pub mod Laws

@@ -1,0 +1,36 @@
+-- What two sinks may rely on, for every table of patterns that keeps the rule and not only for the paper's. Assumes nothing.
+use mathlib.Core.Path.{_≡_}
+use mathlib.Core.Bool.{false}
+use Prim.Native.Nat.{ℕ}
+use Rattle.bits.specs.Choice.{pick}
+use Rattle.settings.specs.declared.Settings.{Settings}
+use Rattle.settings.specs.Settings.{Fit, outside}
+use Rattle.jc.specs.declared.Count.{Count}
+use Rattle.jc.specs.declared.Count.the-variants.{Known}
+use Rattle.jc.specs.declared.Remembered.{Remembered}
+use Rattle.jc.specs.declared.Remembered.the-variants.{Word}
+use Rattle.jc.specs.Word.{equalIndicators}
+use Rattle.jc.specs.Pattern.{Table, standard, Rule}
+use Rattle.jc.specs.Announce.{announced}
+use Rattle.jc.specs.Standing.{finding, READ, TRACKED}
+use Rattle.jc.specs.Follow.{signed, foundBy}
+
+-- a true count is followed to the next, READ where II = DI and otherwise TRACKED
+abbrev pub FollowsTrueCount : Table → Type 0
+FollowsTrueCount t =
+    (s : Settings) → Fit s → (old next : ℕ) (before : Remembered) → outside s old ≡ false → outside s next ≡ false
+    → let w = announced t old next in
+    foundBy t s (Known old) before w ≡ finding (pick (equalIndicators w) READ TRACKED) (Known next)
+
+-- from any state two words of a source in succession give the source's count
+abbrev pub RecoversInTwo : Table → Type 0
+RecoversInTwo t =
+    (s : Settings) → Fit s → (old mid next : ℕ) (count : Count) (before : Remembered)
+    → outside s old ≡ false → outside s mid ≡ false → outside s next ≡ false
+    → let v = announced t old mid in
+    foundBy t s (foundBy t s count before v .count) (signed (Word v)) (announced t mid next) .count ≡ Known next
+
+-- every table that keeps the rule serves, and the paper's does
+pub record TablesServe : Type 0 where
+  pub every : (t : Table) → Rule t → FollowsTrueCount t × RecoversInTwo t
+  pub paper : Rule standard

@@ -1,0 +1,43 @@
+-- The six standings (01, "Sink"): "one of these six standings, each with what it found: a count, or nothing". Assumes nothing.
+use mathlib.Core.List.{List, [], _∷_}
+use Prim.Native.Nat.{ℕ}
+use Rattle.jc.specs.declared.Count.{Count}
+use Rattle.jc.specs.declared.Count.the-variants.{Known, Unknown}
+use Rattle.jc.specs.declared.Standing.{Standing}
+use Rattle.jc.specs.declared.Standing.the-variants.{Read, Tracked, Paired, BadCheck, Waiting, Outside}
+
+-- a standing as the paper writes it: its word, in ASCII, and what it found
+pub record Finding : Type 0 where
+  pub name : List ℕ
+  pub count : Count
+
+abbrev pub finding : List ℕ → Count → Finding
+finding name count = record { name = name; count = count }
+
+-- the paper's words
+abbrev pub READ : List ℕ
+READ = 82 ∷ 69 ∷ 65 ∷ 68 ∷ []
+
+abbrev pub TRACKED : List ℕ
+TRACKED = 84 ∷ 82 ∷ 65 ∷ 67 ∷ 75 ∷ 69 ∷ 68 ∷ []
+
+abbrev pub PAIRED : List ℕ
+PAIRED = 80 ∷ 65 ∷ 73 ∷ 82 ∷ 69 ∷ 68 ∷ []
+
+abbrev pub BADCHECK : List ℕ
+BADCHECK = 66 ∷ 65 ∷ 68 ∷ 67 ∷ 72 ∷ 69 ∷ 67 ∷ 75 ∷ []
+
+abbrev pub WAITING : List ℕ
+WAITING = 87 ∷ 65 ∷ 73 ∷ 84 ∷ 73 ∷ 78 ∷ 71 ∷ []
+
+abbrev pub OUTSIDE : List ℕ
+OUTSIDE = 79 ∷ 85 ∷ 84 ∷ 83 ∷ 73 ∷ 68 ∷ 69 ∷ []
+
+-- the paper's word and what was found, for each case
+abbrev pub said : Standing → Finding
+said (Read n) = finding READ (Known n)
+said (Tracked n) = finding TRACKED (Known n)
+said (Paired n) = finding PAIRED (Known n)
+said BadCheck = finding BADCHECK Unknown
+said Waiting = finding WAITING Unknown
+said Outside = finding OUTSIDE Unknown
