@@ -1,0 +1,139 @@
+-- What an accepted call of the sink knows, and the cases of its definitions. Assumes nothing.
+use mathlib.Core.Path.{_≡_, refl, sym, ap, ap₂, _∙_}
+use mathlib.Core.Bool.{Bool, true, false, not}
+use mathlib.Core.List.{List, [], _++_}
+use Prim.Native.Nat.{ℕ, _≤_}
+use native.Mathlib.Omega.{arith}
+use lib.Dec.{eqb, ltb, lit<}
+use lib.ListN.{length, drop}
+use borrow.Author.Tests.{eqb-true, ltb-false, not-false, eq-eqb, ne-eqb}
+use Rattle.bits.specs.Choice.{pick}
+use Rattle.crc8.specs.Check.{passes}
+use Rattle.settings.specs.declared.Settings.{Settings}
+use Rattle.settings.specs.Grid.{payloadBytes, frameBytes}
+use Rattle.settings.specs.Refusals.{accepted, refused}
+use Rattle.settings.specs.Settings.{Fit, outside}
+use Rattle.settings.proofs.Laws.{none-applies, all-passed, settings-fit, inside-window}
+use Rattle.jc.specs.declared.Count.{Count}
+use Rattle.jc.specs.declared.Count.the-variants.{Known, Unknown}
+use Rattle.jc.specs.declared.Remembered.{Remembered}
+use Rattle.jc.specs.declared.Remembered.the-variants.{Word, Nothing}
+use Rattle.jc.specs.Word.{wordBy}
+use Rattle.jc.specs.Standing.{finding, BADCHECK}
+use Rattle.jc.specs.Follow.{inside, signed, found}
+use Rattle.stuffing.specs.declared.Control.{Control}
+use Rattle.stuffing.specs.Frame.{controlOf, clientBytes, clientTaken}
+use Rattle.stuffing.proofs.Laws.{length-client, taken-fits}
+use Rattle.sink.specs.declared.SinkState.{SinkState}
+use Rattle.sink.specs.Sink.{sinkReasons, sinkNumber, handed, standingAfter, stateAfter, sinkAnswer, sinkState, sinkHanded, sinkOut, HandsOut}
+
+-- an accepted call
+pub record Accepted (s : Settings) (frameLength outLength : ℕ) : Type 0 where
+  pub fit : Fit s
+  pub frame : frameLength ≡ frameBytes (s .k)
+  pub space : s .hi ≤ outLength
+
+pub accepted-knows : (s : Settings) (f o : ℕ) → sinkNumber s f o ≡ 0 → Accepted s f o
+unfolding sinkNumber
+accepted-knows s f o e =
+    let all = all-passed s (sinkReasons s f o) e in
+    let eight = none-applies 8 (not (eqb f (frameBytes (s .k)))) _ (lit< tt) (all .1) in
+    let nine = none-applies 9 (ltb o (s .hi)) _ (lit< tt) (eight .1) in
+    record { fit = settings-fit s (all .0); frame = eqb-true _ _ (not-false _ (eight .0)); space = ltb-false _ _ (nine .0) }
+
+-- a count that counts is at most hi
+pub known-le : (s : Settings) (c : Count) (n : ℕ) → inside s c ≡ Known n → n ≤ s .hi
+unfolding inside
+known-le s (Known m) n e = by (outside s m) refl e
+  where
+    by : (b : Bool) → outside s m ≡ b → pick b Unknown (Known m) ≡ Known n → n ≤ s .hi
+    by true o e′ = let z : _≡_ {A = ℕ} 0 1 = cc in absurd (omega arith)
+    by false o e′ = let d : m ≡ n = cc in omega (arith, inside-window s m o)
+known-le s Unknown n e = let z : _≡_ {A = ℕ} 0 1 = cc in absurd (omega arith)
+
+module _ (s : Settings) (z : SinkState) (frame : List ℕ) where
+  -- the bytes handed out, by the count that was known
+  pub handed-known : (n : ℕ) → inside s (z .count) ≡ Known n → handed s z frame ≡ clientBytes (s .k) n frame
+  unfolding handed
+  handed-known n e = rw e
+
+  pub handed-none : inside s (z .count) ≡ Unknown → handed s z frame ≡ []
+  unfolding handed
+  handed-none e = rw e
+
+  module _ (out : List ℕ) where
+    -- an accepted call
+    pub answer-accepted : sinkNumber s (length frame) (length out) ≡ 0 → sinkAnswer s z frame out ≡ accepted (standingAfter s z (controlOf (s .k) frame))
+    unfolding sinkAnswer
+    answer-accepted e = simp (eq-eqb _ _ e)
+
+    pub state-accepted : sinkNumber s (length frame) (length out) ≡ 0 → sinkState s z frame out ≡ stateAfter s z (controlOf (s .k) frame)
+    unfolding sinkState
+    state-accepted e = simp (eq-eqb _ _ e)
+
+    pub handed-accepted : sinkNumber s (length frame) (length out) ≡ 0 → sinkHanded s z frame out ≡ handed s z frame
+    unfolding sinkHanded
+    handed-accepted e = simp (eq-eqb _ _ e)
+
+    pub out-accepted : sinkNumber s (length frame) (length out) ≡ 0 → sinkOut s z frame out ≡ handed s z frame ++ drop (length (handed s z frame)) out
+    unfolding sinkOut
+    out-accepted e = ap (λ (l : List ℕ). l ++ drop (length l) out) (handed-accepted e)
+
+    -- a refused one
+    pub answer-refused : (sinkNumber s (length frame) (length out) ≡ 0 → ⊥) → sinkAnswer s z frame out ≡ refused (sinkNumber s (length frame) (length out))
+    unfolding sinkAnswer
+    answer-refused h = simp (ne-eqb _ _ h)
+
+    pub state-refused : (sinkNumber s (length frame) (length out) ≡ 0 → ⊥) → sinkState s z frame out ≡ z
+    unfolding sinkState
+    state-refused h = simp (ne-eqb _ _ h)
+
+    pub handed-refused : (sinkNumber s (length frame) (length out) ≡ 0 → ⊥) → sinkHanded s z frame out ≡ []
+    unfolding sinkHanded
+    handed-refused h = simp (ne-eqb _ _ h)
+
+    pub out-refused : (sinkNumber s (length frame) (length out) ≡ 0 → ⊥) → sinkOut s z frame out ≡ out
+    unfolding sinkOut
+    out-refused h = ap (λ (l : List ℕ). l ++ drop (length l) out) (handed-refused h)
+
+module _ (s : Settings) (z : SinkState) (c : Control) where
+  -- control bytes that pass the check lead where their word leads, and those that fail to nothing
+  pub standing-passed : passes (c .jc1) (c .jc2) (c .jc3) ≡ true → standingAfter s z c ≡ found s (z .count) (z .word) (wordBy (c .jc1) (c .jc2))
+  unfolding standingAfter
+  standing-passed e = rw e
+
+  pub standing-failed : passes (c .jc1) (c .jc2) (c .jc3) ≡ false → standingAfter s z c ≡ finding BADCHECK Unknown
+  unfolding standingAfter
+  standing-failed e = rw e
+
+  pub word-passed : passes (c .jc1) (c .jc2) (c .jc3) ≡ true → stateAfter s z c .word ≡ signed (Word (wordBy (c .jc1) (c .jc2)))
+  unfolding stateAfter
+  word-passed e = rw e
+
+  pub word-failed : passes (c .jc1) (c .jc2) (c .jc3) ≡ false → stateAfter s z c .word ≡ Nothing
+  unfolding stateAfter
+  word-failed e = rw e
+
+  -- the new count is what was found
+  pub count-after : stateAfter s z c .count ≡ standingAfter s z c .count
+  unfolding stateAfter
+  count-after = refl
+
+-- what the code of `hand_out` comes to, where a count n is known
+pub hands-out : (s : Settings) (z : SinkState) (frame out : List ℕ) (n : ℕ) (after : List ℕ) → sinkNumber s (length frame) (length out) ≡ 0
+    → inside s (z .count) ≡ Known n → after ≡ clientTaken (s .k) n frame out → HandsOut (handed s z frame) out n after
+hands-out s z frame out n after zero known e =
+    let a = accepted-knows s (length frame) (length out) zero in
+    let le = known-le s (z .count) n known in
+    let fits : n ≤ payloadBytes (s .k) = omega (arith, a .fit .within) in
+    let room : n ≤ length out = omega (arith, a .space) in
+    let same = length-client (s .k) n frame fits (a .frame) in
+    let h = handed-known s z frame n known in
+    record {
+      number = sym (ap length h ∙ same);
+      buffer = e ∙ taken-fits (s .k) n frame out (a .frame) fits room ∙ sym (rw (h, same));
+    }
+
+-- a state by its two parts
+pub state-of-parts : (count : Count) (word : Remembered) (x : SinkState) → count ≡ x .count → word ≡ x .word → record { count = count; word = word } ≡ x
+state-of-parts count word x e f = ap₂ (λ (c : Count) (w : Remembered). record { count = c; word = w }) e f

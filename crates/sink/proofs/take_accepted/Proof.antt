@@ -1,0 +1,48 @@
+-- `sink::take_accepted` meets its contract: the parts, put together. Assumes nothing.
+use mathlib.Core.Path.{_≡_, _∙_, sym, ap}
+use mathlib.Core.List.{List, _++_}
+use Prim.Native.Nat.{ℕ}
+use lib.ListN.{length, drop}
+use borrow.Author.Needs.{needs}
+use Rattle.settings.specs.Refusals.{accepted}
+use Rattle.jc.specs.declared.Count.{Count}
+use Rattle.jc.specs.declared.Remembered.{Remembered}
+use Rattle.jc.specs.Standing.{Finding}
+use Rattle.stuffing.specs.declared.Control.{Control}
+use Rattle.stuffing.specs.Frame.{controlOf}
+use Rattle.sink.specs.Sink.{stateAfter, standingAfter}
+use Rattle.sink.proofs.Laws.{answer-accepted, state-accepted, handed-accepted, out-accepted, state-of-parts}
+use Rattle.sink.proofs.take_accepted.Statement.{statement}
+use Rattle.sink.proofs.take_accepted.Tie as tie
+
+hand-out-requires : tie.Need-hand-out-requires
+hand-out-requires c κs = search needs
+
+control-of-requires : tie.Need-control-of-requires
+control-of-requires c κs = search needs
+
+read-control-requires : tie.Need-read-control-requires
+read-control-requires c κs = search needs
+
+same-length : tie.Need-same-length
+same-length c = search needs
+
+returns : tie.Need-returns
+returns c =
+    let g = c .before .before .before .before .before .before .before .before .args in
+    let s = g .settings in
+    let z = g .state in
+    let frame = g .frame .now in
+    let out = g .out .now in
+    let control = c .before .control-of .ensures in
+    record {
+      answer = ap accepted (c .read-control .ensures .standing ∙ ap (standingAfter s z) control) ∙ sym (answer-accepted s z frame out (c .before .before .before .before .before .before .before .before .pre));
+      state = state-of-parts _ _ _ (c .read-control .ensures .count) (c .read-control .ensures .word) ∙ ap (stateAfter s z) control ∙ sym (state-accepted s z frame out (c .before .before .before .before .before .before .before .before .pre));
+      handed-bytes = c .before .before .before .before .hand-out .ensures .number ∙ sym (ap length (handed-accepted s z frame out (c .before .before .before .before .before .before .before .before .pre)));
+      out-buffer = c .before .before .before .before .hand-out .ensures .buffer ∙ sym (out-accepted s z frame out (c .before .before .before .before .before .before .before .before .pre));
+    }
+
+pub take-accepted-spec : {M : Type 1} → statement M
+take-accepted-spec =
+    tie.close
+    (tie.spec hand-out-requires control-of-requires read-control-requires same-length returns)

@@ -1,0 +1,2 @@
+-- The sink. Assumes nothing.
+pub mod Sink

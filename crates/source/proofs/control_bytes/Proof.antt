@@ -1,0 +1,24 @@
+-- `source::control_bytes` meets its contract. Assumes nothing.
+use mathlib.Core.Path.{_≡_, _∙_, ap}
+use Prim.Native.Nat.{ℕ}
+use borrow.Author.Needs.{needs}
+use Rattle.jc.specs.declared.WordBytes.{WordBytes}
+use Rattle.stuffing.specs.declared.Control.{Control}
+use Rattle.source.specs.Source.{checked, controlBytes}
+use Rattle.source.proofs.control_bytes.Statement.{statement}
+use Rattle.source.proofs.control_bytes.Tie as tie
+
+announce-requires : tie.Need-announce-requires
+announce-requires c κs = search needs
+
+remainder-requires : tie.Need-remainder-requires
+remainder-requires c κs = search needs
+
+returns : tie.Need-returns
+unfolding controlBytes
+returns c =
+    let w = c .before .announce .result in
+    ap (λ (x : ℕ). record { jc1 = w .jc1; jc2 = w .jc2; jc3 = x }) (c .remainder .ensures) ∙ ap checked (c .before .announce .ensures)
+
+pub control-bytes-spec : {M : Type 1} → statement M
+control-bytes-spec = tie.close (tie.spec announce-requires remainder-requires returns)

@@ -1,0 +1,47 @@
+-- `source::judge_start` meets its contract: each return rewrites with the tests that led to it. Assumes nothing.
+use mathlib.Core.Path.{_≡_, _∙_, sym}
+use borrow.Author.Needs.{needs}
+use Rattle.settings.specs.Refusals.{lowest}
+use Rattle.settings.proofs.Laws.{settings-refuse, settings-pass, own-lines-decide}
+use Rattle.source.specs.Source.{startReasons, startNumber}
+use Rattle.source.proofs.judge_start.Statement.{statement}
+use Rattle.source.proofs.judge_start.Tie as tie
+
+judge-requires : tie.Need-judge-requires
+judge-requires c κs = search needs
+
+enum-told : tie.Need-enum-told
+enum-told c = search needs
+
+enum-told-2 : tie.Need-enum-told-2
+enum-told-2 c = search needs
+
+returns : tie.Need-returns
+unfolding startNumber
+returns c =
+    let g = c .before .before .before .args in
+    settings-refuse (g .settings) (startReasons (g .settings) (g .first)) _ _ (c .before .before .judge .ensures) (c .enum-told2 .given .1)
+
+is-outside-requires : tie.Need-is-outside-requires
+is-outside-requires c κs = search needs
+
+returns-2 : tie.Need-returns-2
+unfolding startNumber
+returns-2 c =
+    let g = c .before .before .before .before .before .args in
+    let own : lowest (startReasons (g .settings) (g .first)) ≡ 5 =
+    simp (sym (c .before .is-outside .ensures) ∙ c .if1 .taken) in
+    sym (own-lines-decide (g .settings) (startReasons (g .settings) (g .first)) (settings-pass (g .settings) _ (c .before .before .before .before .judge .ensures) (c .before .before .enum-told .given .1)) ∙ own)
+
+returns-3 : tie.Need-returns-3
+unfolding startNumber
+returns-3 c =
+    let g = c .before .before .before .before .before .args in
+    let own : lowest (startReasons (g .settings) (g .first)) ≡ 0 =
+    simp (sym (c .before .is-outside .ensures) ∙ c .if1 .left) in
+    sym (own-lines-decide (g .settings) (startReasons (g .settings) (g .first)) (settings-pass (g .settings) _ (c .before .before .before .before .judge .ensures) (c .before .before .enum-told .given .1)) ∙ own)
+
+pub judge-start-spec : {M : Type 1} → statement M
+judge-start-spec =
+    tie.close
+    (tie.spec judge-requires enum-told enum-told-2 returns is-outside-requires returns-2 returns-3)

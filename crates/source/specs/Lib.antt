@@ -1,0 +1,2 @@
+-- The source. Assumes nothing.
+pub mod Source

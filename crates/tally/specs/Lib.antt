@@ -1,0 +1,2 @@
+-- The card's tally. Assumes nothing.
+pub mod Tally
