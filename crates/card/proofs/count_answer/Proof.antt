@@ -9,7 +9,6 @@ use Rattle.card.specs.Card.{tallyBy}
 use Rattle.card.proofs.count_answer.Statement.{statement}
 use Rattle.card.proofs.count_answer.Tie as tie
 
-
 enum-known-answer : tie.Need-enum-known-answer
 enum-known-answer c = search needs
 
@@ -26,7 +25,7 @@ count-frame-requires : tie.Need-count-frame-requires
 count-frame-requires c κs = search needs
 
 returns-2 : tie.Need-returns-2
-returns-2 c = 
+returns-2 c =
     let g = c .before .before .before .before .before .args in
     c .count-frame .ensures
     ∙ ap (λ (n : ℕ). added (g .tally) 1 n (g .handed)) (c .before .bad-frames .ensures)

@@ -9,7 +9,6 @@ use Rattle.card.specs.Card.{tallyBy, tallyAfter}
 use Rattle.card.proofs.count_call.Statement.{statement}
 use Rattle.card.proofs.count_call.Tie as tie
 
-
 take-frame-requires : tie.Need-take-frame-requires
 take-frame-requires c κs = search needs
 
@@ -21,7 +20,7 @@ same-length c = search needs
 
 returns : tie.Need-returns
 unfolding tallyAfter
-returns c = 
+returns c =
     let g = c .before .before .before .before .before .before .before .args in
     let p = c .before .before .before .take-frame .ensures in
     record {

@@ -1,0 +1,4 @@
+mod Starred
+mod Build
+mod Reading
+mod Run

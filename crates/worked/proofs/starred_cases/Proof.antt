@@ -1,0 +1,10 @@
+-- `worked::starred_cases` meets its contract. Assumes nothing.
+use Rattle.worked.proofs.Starred.{starred-hold}
+use Rattle.worked.proofs.starred_cases.Statement.{statement}
+use Rattle.worked.proofs.starred_cases.Tie as tie
+
+returns : tie.Need-returns
+returns c = starred-hold
+
+pub starred-cases-spec : {M : Type 1} → statement M
+starred-cases-spec = tie.close (tie.spec returns)

@@ -1,0 +1,5 @@
+-- Worked frames, and that demand 3 is neither empty nor more than it need be. Assumes nothing.
+pub mod Starred
+pub mod Run
+pub mod Readable
+pub mod Less
