@@ -114,7 +114,7 @@ pub fn tables_serve()
 {}
 
 // What a standing found.
-fn found_count(standing: Standing) -> Count
+pub fn found_count(standing: Standing) -> Count
     ensures { λ r. ⌜ r ≡ said standing .count ⌝ }
 {
     match standing {

@@ -10,6 +10,7 @@ ghost use Rattle.settings.specs.Refusals.{verdictNumber};
 ghost use Rattle.source.specs.Source.{startNumber, newSource, startTold, sourceNumber, psi, checked, controlBytes, SourcePromise};
 
 // The present count, the multiframe number and the payload type.
+#[repr(C)]
 pub struct SourceState {
     pub count: u32,
     pub number: u32,

@@ -3,6 +3,7 @@ ghost use mathlib.Core.Path.{_≡_};
 ghost use Prim.Native.Nat.{_+_};
 ghost use Rattle.tally.specs.Tally.{cut, added};
 
+#[repr(C)]
 pub struct Tally {
     pub frames: u32,
     pub bad: u32,

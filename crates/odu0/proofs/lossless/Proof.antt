@@ -1,0 +1,41 @@
+-- `odu0::lossless` meets its contract: each case computes. Assumes nothing.
+use mathlib.Core.Path.{_≡_, refl, ap₂}
+use Prim.Native.Nat.{ℕ}
+use Rattle.settings.specs.Refusals.{accepted}
+use Rattle.jc.specs.declared.Count.{Count}
+use Rattle.jc.specs.declared.Count.the-variants.{Known, Unknown}
+use Rattle.jc.specs.declared.Remembered.{Remembered}
+use Rattle.jc.specs.declared.Remembered.the-variants.{Word, Nothing}
+use Rattle.jc.specs.declared.Standing.{Standing}
+use Rattle.jc.specs.declared.Standing.the-variants.{Read, Tracked, Paired, BadCheck, Waiting, Outside}
+use Rattle.jc.specs.Standing.{said}
+use Rattle.sink.specs.declared.SinkState.{SinkState}
+use Rattle.odu0.specs.Numbers.{countFrom, countFlag, countNumber, wordFrom, wordFlag, wordNumber, stateFrom, stateNumbers, sinkReplyBy}
+use Rattle.odu0.specs.Lossless.{answerFrom}
+use Rattle.odu0.proofs.lossless.Statement.{statement}
+use Rattle.odu0.proofs.lossless.Tie as tie
+
+count-back : (c : Count) → countFrom (countFlag c) (countNumber c) ≡ c
+count-back (Known n) = refl
+count-back Unknown = refl
+
+word-back : (w : Remembered) → wordFrom (wordFlag w) (wordNumber w) ≡ w
+word-back (Word n) = refl
+word-back Nothing = refl
+
+state-back : (z : SinkState) → stateFrom (stateNumbers z) ≡ z
+state-back z = ap₂ (λ (c : Count) (w : Remembered). record { count = c; word = w }) (count-back (z .count)) (word-back (z .word))
+
+standing-back : (x : Standing) (handed : ℕ) (z : SinkState) → answerFrom (sinkReplyBy (accepted (said x)) handed z) ≡ accepted (said x)
+standing-back (Read n) handed z = refl
+standing-back (Tracked n) handed z = refl
+standing-back (Paired n) handed z = refl
+standing-back BadCheck handed z = refl
+standing-back Waiting handed z = refl
+standing-back Outside handed z = refl
+
+returns : tie.Need-returns
+returns c = record { state = state-back; standing = standing-back; refusal = λ n handed z. refl; tally = λ y. refl }
+
+pub lossless-spec : {M : Type 1} → statement M
+lossless-spec = tie.close (tie.spec returns)

@@ -1,0 +1,58 @@
+-- `sinkshow::main` meets its contract. The loop's number grows to the largest of 64 bits and no further. Assumes nothing.
+use Prim.Native.Nat.{_-_, _≤_}
+use borrow.Author.Needs.{needs}
+use Rattle.sinkshow.proofs.main.Statement.{statement}
+use Rattle.sinkshow.proofs.main.Tie as tie
+
+abbrev Inv-loop : tie.InvT-loop
+Inv-loop state₀ number₀ state number = number ≤ 18446744073709551615
+
+abbrev μ-loop : tie.MeasureT-loop
+μ-loop state₀ number₀ state number = 18446744073709551615 - number
+
+new-sink-requires : tie.Need-new-sink-requires Inv-loop μ-loop
+new-sink-requires c κs = search needs
+
+loop-holds : tie.Need-loop-holds Inv-loop μ-loop
+loop-holds c = search needs
+
+add-number : tie.Need-add-number Inv-loop μ-loop
+add-number c = search needs
+
+show-next-requires : tie.Need-show-next-requires Inv-loop μ-loop
+show-next-requires c κs = search needs
+
+enum-known-next : tie.Need-enum-known-next Inv-loop μ-loop
+enum-known-next c = search needs
+
+enum-told : tie.Need-enum-told Inv-loop μ-loop
+enum-told c = search needs
+
+returns : tie.Need-returns Inv-loop μ-loop
+returns c = search needs
+
+loop-less : tie.Need-loop-less Inv-loop μ-loop
+loop-less c = search needs
+
+loop-again : tie.Need-loop-again Inv-loop μ-loop
+loop-again c = search needs
+
+returns-2 : tie.Need-returns-2 Inv-loop μ-loop
+returns-2 c = search needs
+
+pub main-spec : {M : Type 1} → statement M
+main-spec =
+    tie.close
+    (tie.spec
+    Inv-loop
+    μ-loop
+    new-sink-requires
+    loop-holds
+    add-number
+    show-next-requires
+    enum-known-next
+    enum-told
+    returns
+    loop-less
+    loop-again
+    returns-2)

@@ -1,0 +1,64 @@
+-- `sinkshow::take_frame` meets its contract. Assumes nothing.
+use mathlib.Core.Path.{refl}
+use native.Mathlib.Omega.{arith}
+use borrow.Author.Needs.{needs}
+use Rattle.sinkshow.proofs.Taken.{never-refused, shown}
+use Rattle.sinkshow.proofs.Laws.{numbers-within}
+use Rattle.sinkshow.proofs.take_frame.Statement.{statement}
+use Rattle.sinkshow.proofs.take_frame.Tie as tie
+
+slice-aggregate-take-frame : tie.Need-slice-aggregate-take-frame
+slice-aggregate-take-frame c = search needs
+
+take-frame-requires : tie.Need-take-frame-requires
+take-frame-requires c κs = search needs
+
+enum-known-answer : tie.Need-enum-known-answer
+enum-known-answer c = search needs
+
+enum-told : tie.Need-enum-told
+enum-told c = search needs
+
+returns : tie.Need-returns
+returns c =
+    let start = c .before .before .before .before .before .before .before .before in
+    let g = start .args in
+    let t = c .before .before .before .before .take-frame in
+    absurd (never-refused (g .state) (g .frame .now) _ (start .pre .0) refl (t .result) _ (t .ensures) _ (c .enum-told .given .1))
+
+put-numbers-requires : tie.Need-put-numbers-requires
+put-numbers-requires c κs = search needs
+
+put-standing-requires : tie.Need-put-standing-requires
+put-standing-requires c κs =
+    let g = c .before .before .before .before .before .before .before .before .before .before .before .before .before .before .args in
+    let t = c .before .before .before .before .before .before .before .before .before .before .take-frame in
+    let p = c .before .before .before .put-numbers .ensures in
+    omega (arith, p .next, p .kept, numbers-within (g .number) (t .result .handed))
+
+same-length : tie.Need-same-length
+same-length c = search needs
+
+returns-2 : tie.Need-returns-2
+returns-2 c =
+    let start = c .before .before .before .before .before .before .before .before .before .before .before .before .before .before .before .before .before in
+    let g = start .args in
+    let t = c .before .before .before .before .before .before .before .before .before .before .before .before .before .take-frame in
+    let done = c .before .before .before .before .before .before .before .before .before .answer .given .1 in
+    let numbers = c .before .before .before .before .before .before .put-numbers .ensures in
+    let standing = c .before .before .put-standing .ensures in
+    shown (g .state) (g .frame .now) _ (start .pre .0) refl (t .result) _ (t .ensures) (g .number) _ done _ _ _ _ _ numbers standing
+
+pub take-frame-spec : {M : Type 1} → statement M
+take-frame-spec =
+    tie.close
+    (tie.spec
+    slice-aggregate-take-frame
+    take-frame-requires
+    enum-known-answer
+    enum-told
+    returns
+    put-numbers-requires
+    put-standing-requires
+    same-length
+    returns-2)

@@ -1,0 +1,219 @@
+// Shows what a new sink makes of the 16-byte frames on standard input (K = 2, window 0 to 8): a line for each frame, and a last line where
+// the input ends within one. Every byte of a line is promised by the functions that make it.
+use jc::Count;
+use jc::Standing;
+use libc::STDIN_FILENO;
+use libc::STDOUT_FILENO;
+use settings::Settings;
+use sink::SinkAnswer;
+use sink::SinkState;
+ghost use mathlib.Core.Path.{_≡_};
+ghost use Prim.Native.Nat.{_+_, _≤_};
+ghost use lib.ListN.{length};
+ghost use Rattle.jc.specs.Standing.{said};
+ghost use Rattle.sinkshow.specs.Lines.{decimal, countText, numbersText, standingText, restLine};
+ghost use Rattle.sinkshow.specs.Show.{Gathers, Puts, Shows};
+
+// What reading a frame came to: all of it, so many bytes before the input ended, or an error.
+enum Got {
+    Whole,
+    Rest(usize),
+    Failed,
+}
+
+// The length of a frame's line, and the sink's state after the frame.
+struct Shown {
+    length: usize,
+    state: SinkState,
+}
+
+// The sink's state to go on from, or that there is nothing more to show.
+enum Next {
+    From(SinkState),
+    End,
+}
+
+// Shows frame after frame. A proved loop has to end: this one does at the largest frame number, which no run reaches.
+fn main() {
+    let mut state = sink::new_sink();
+    let mut number: u64 = 0;
+    while number < u64::MAX {
+        number += 1;
+        let next = show_next(number, state);
+        let Next::From(after) = next else {
+            return;
+        };
+        state = after;
+    }
+}
+
+// Reads the next frame and shows it, or what is left where the input ends.
+fn show_next(number: u64, state: SinkState) -> Next {
+    let mut frame = [0u8; 16];
+    let got = read_frame(&mut frame);
+    match got {
+        Got::Whole => show_frame(number, state, &frame),
+        Got::Rest(left) => {
+            show_rest(left);
+            Next::End
+        }
+        Got::Failed => {
+            os::fail(b"sinkshow: standard input");
+            Next::End
+        }
+    }
+}
+
+// Fills the frame, by as many reads as it takes.
+fn read_frame(frame: &mut [u8]) -> Got
+    ensures { λ r. ⌜ Gathers (length (now (frame .entry))) r ⌝ }
+{
+    let mut done = 0;
+    while done < frame.len() {
+        let part = &mut frame[done..];
+        let got = libc::read(STDIN_FILENO, part);
+        if got < 0 {
+            return Got::Failed;
+        }
+        let n = io::count(got, part);
+        if n == 0 {
+            return Got::Rest(done);
+        }
+        done += n;
+    }
+    Got::Whole
+}
+
+// Takes a frame and writes its line. Where that fails nothing more is shown. Three numbers of up to 20 digits, a word of up to 8 letters
+// and 4 bytes between and after them are 72 bytes.
+fn show_frame(number: u64, state: SinkState, frame: &[u8]) -> Next
+    requires { ⌜ length (now frame) ≡ 16 ⌝ }
+{
+    let mut line = [0u8; 72];
+    let shown = take_frame(number, state, frame, &mut line);
+    let length = shown.length;
+    let after = shown.state;
+    if write_line(&line[..length]) {
+        return Next::From(after);
+    }
+    Next::End
+}
+
+// Writes the last line, where a byte or more is left.
+fn show_rest(left: usize) {
+    if left == 0 {
+        return;
+    }
+    let mut line = [0u8; 72];
+    let length = put_rest(&mut line, left);
+    write_line(&line[..length]);
+}
+
+// Writes a line to standard output, or says on standard error why that failed.
+fn write_line(line: &[u8]) -> bool {
+    let is_written = io::write_all(STDOUT_FILENO, line);
+    if !is_written {
+        os::fail(b"sinkshow: standard output");
+    }
+    is_written
+}
+
+// Hands a frame to the sink and makes its line. With 16 bytes, these settings and this output buffer no call is refused.
+fn take_frame(number: u64, state: SinkState, frame: &[u8], line: &mut [u8]) -> Shown
+    requires { ⌜ (length (now frame) ≡ 16) × (72 ≤ length (now line)) ⌝ }
+    ensures { λ r. ⌜ Shows number state (now (frame .entry)) (now (line .entry)) r (now (line .exit)) ⌝ }
+{
+    let settings = Settings { k: 2, lo: 0, hi: 8 };
+    let mut out = [0u8; 8];
+    let result = sink::take_frame(settings, state, frame, &mut out);
+    let answer = result.answer;
+    let after = result.state;
+    let SinkAnswer::Done(standing) = answer else {
+        return Shown {
+            length: 0,
+            state: after,
+        };
+    };
+    let at = put_numbers(line, number, result.handed);
+    Shown {
+        length: put_standing(line, at, standing),
+        state: after,
+    }
+}
+
+// Makes the last line, "LEFT" and the number of bytes left, and gives its length.
+fn put_rest(line: &mut [u8], left: usize) -> usize
+    requires { ⌜ 26 ≤ length (now line) ⌝ }
+    ensures { λ r. ⌜ Puts (now (line .entry)) 0 (restLine left) r (now (line .exit)) ⌝ }
+{
+    let a = put(line, 0, b"LEFT ");
+    let b = put_number(line, a, left as u64);
+    put(line, b, b"\n")
+}
+
+// Begins a line with the frame number and the number of bytes handed out, a space behind each, and gives its length so far.
+fn put_numbers(line: &mut [u8], number: u64, handed: u32) -> usize
+    requires { ⌜ 42 ≤ length (now line) ⌝ }
+    ensures { λ r. ⌜ Puts (now (line .entry)) 0 (numbersText number handed) r (now (line .exit)) ⌝ }
+{
+    let a = put_number(line, 0, number);
+    let b = put(line, a, b" ");
+    let c = put_number(line, b, handed as u64);
+    put(line, c, b" ")
+}
+
+// Ends a line of `at` bytes so far with the standing, a space, its count or "-" and a newline, and gives the line's length.
+fn put_standing(line: &mut [u8], at: usize, standing: Standing) -> usize
+    requires { ⌜ at + 30 ≤ length (now line) ⌝ }
+    ensures { λ r. ⌜ Puts (now (line .entry)) at (standingText (said standing)) r (now (line .exit)) ⌝ }
+{
+    let a = put_word(line, at, standing);
+    let b = put(line, a, b" ");
+    let c = put_count(line, b, standing);
+    put(line, c, b"\n")
+}
+
+// Puts the word of a standing behind the first `at` bytes of a line, and gives the length then.
+fn put_word(line: &mut [u8], at: usize, standing: Standing) -> usize
+    requires { ⌜ at + 8 ≤ length (now line) ⌝ }
+    ensures { λ r. ⌜ Puts (now (line .entry)) at (said standing .name) r (now (line .exit)) ⌝ }
+{
+    match standing {
+        Standing::Read(_) => put(line, at, b"READ"),
+        Standing::Tracked(_) => put(line, at, b"TRACKED"),
+        Standing::Paired(_) => put(line, at, b"PAIRED"),
+        Standing::BadCheck => put(line, at, b"BADCHECK"),
+        Standing::Waiting => put(line, at, b"WAITING"),
+        Standing::Outside => put(line, at, b"OUTSIDE"),
+    }
+}
+
+// Puts the count that a standing found there, or "-" where it found none.
+fn put_count(line: &mut [u8], at: usize, standing: Standing) -> usize
+    requires { ⌜ at + 20 ≤ length (now line) ⌝ }
+    ensures { λ r. ⌜ Puts (now (line .entry)) at (countText (said standing .count)) r (now (line .exit)) ⌝ }
+{
+    let count = jc::found_count(standing);
+    let Count::Known(n) = count else {
+        return put(line, at, b"-");
+    };
+    put_number(line, at, n as u64)
+}
+
+// Puts a number there in decimal.
+fn put_number(line: &mut [u8], at: usize, n: u64) -> usize
+    requires { ⌜ at + 20 ≤ length (now line) ⌝ }
+    ensures { λ r. ⌜ Puts (now (line .entry)) at (decimal n) r (now (line .exit)) ⌝ }
+{
+    let mut digits = [0u8; 20];
+    let k = io::decimal(n, &mut digits);
+    put(line, at, &digits[..k])
+}
+
+// Puts these bytes there.
+fn put(line: &mut [u8], at: usize, text: &[u8]) -> usize
+    requires { ⌜ at + length (now text) ≤ length (now line) ⌝ }
+    ensures { λ r. ⌜ Puts (now (line .entry)) at (now (text .entry)) r (now (line .exit)) ⌝ }
+{
+    at + bytes::copy(text, &mut line[at..])
+}
