@@ -21,9 +21,10 @@ use Rattle.jc.specs.Word.{modulus, wordOf, countBits, equalIndicators, b
 use Rattle.jc.specs.Pattern.{Table, Rule}
 use Rattle.jc.specs.Announce.{announced}
 use Rattle.jc.specs.Standing.{Finding, finding, READ, TRACKED, PAIRED, BADCHECK, WAITING, OUTSIDE, said}
-use Rattle.jc.specs.Follow.{inside, signed, fromCount, fromWord, orElse, reading, windowedBy, windowed, foundBy}
-use Rattle.jc.specs.Claims.{TablesServe}
+use Rattle.jc.specs.Follow.{inside, signed, tracked, fromCount, fromWord, orElse, reading, windowedBy, windowed, foundBy}
+use Rattle.jc.specs.Claims.{ContinuesOne, TablesServe}
 use Rattle.jc.proofs.Tables.{standard-rule}
+use Rattle.jc.proofs.Pairing.{one-continued}
 use Rattle.jc.proofs.Announced.{Plain, Changes, Announces, announced-says, announced-lt}
 use Rattle.jc.proofs.Reading.{NoneOr, orElse-keeps, reading-plain, count-signed, PossibleOf, from-true, true-reading, any-reading, word-true, second-reading}
 
@@ -178,11 +179,16 @@ module _ (t : Table) (rule : Rule t) (s : Settings) (fit : Fit s) where
         word-true = remembered-by (announced t mid next) (equalIndicators (announced t mid next)) refl;
       }
 
+-- of two possible counts only one number is continued
+continues-one : (t : Table) → Rule t → ContinuesOne t
+continues-one t rule before f bits g a b hf hg ea eb =
+    let e : Known a ≡ Known b = sym ea ∙ ap (λ (c : ℕ). tracked t c bits g) (sym (one-continued t rule before f bits g hf hg a b ea eb)) ∙ eb in cc
+
 -- every table that keeps the rule serves
 pub tables-serve : TablesServe
 tables-serve =
     record {
-      every = λ t rule. (λ s fit. follows-true-count t rule s fit, λ s fit. recovers-in-two t rule s fit);
+      every = λ t rule. (λ s fit. follows-true-count t rule s fit, λ s fit. recovers-in-two t rule s fit, continues-one t rule);
       paper = standard-rule;
     }
 

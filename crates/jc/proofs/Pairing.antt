@@ -1,5 +1,5 @@
 -- What two words of a source in succession lead to, for every table that keeps the rule. Sign 0 is plus, 1 is minus. Assumes nothing.
-use mathlib.Core.Path.{_≡_, refl, sym, ap, _∙_}
+use mathlib.Core.Path.{_≡_, refl, sym, ap, ap₂, _∙_}
 use mathlib.Core.Logic.{_⊎_, inl, inr, ⊎-elim, ⊎-map}
 use mathlib.Core.Bool.{Bool, true, false}
 use Prim.Native.Nat.{ℕ, zero, suc, _+_, _%_, _<_}
@@ -37,6 +37,9 @@ sign-odd (suc (suc s)) h = absurd (not-suc-le-zero (le-of-suc-le-suc (le-of-suc-
 -- the count bits exclusive-or the old count are the pattern
 true-pattern : (old q : ℕ) → bitXor (bitXor old q) old ≡ q
 true-pattern old q = xor-comm (bitXor old q) old ∙ xor-undo-l old q
+
+known-is-not-unknown : (n : ℕ) → Known n ≡ Unknown → ⊥
+known-is-not-unknown n e = let z : _≡_ {A = ℕ} 0 1 = cc in omega arith
 
 -- c is one of the two possible counts of a word
 abbrev pub Possible : Table → ℕ → ℕ → ℕ → Type 0
@@ -164,3 +167,30 @@ module _ (t : Table) (rule : Rule t) where
         → (tracked t c (sent t (after old j) k) g ≡ Unknown) ⊎ (tracked t c (sent t (after old j) k) g ≡ Known (after (after old j) k))
     unfolding Leads
     possible-leads c h = ⊎-elim (λ e. rw e (each s (inl refl))) (λ e. rw e (each (s + 2) (inr refl))) h
+
+  -- Of the two possible counts of any word v, whoever wrote it, another word continues at most one, unless they are the same number.
+  module _ (v f bits g : ℕ) (hf : f < 2) (hg : g < 2) where
+    old : ℕ
+    old = bitXor v (patternAt t f)
+
+    -- the other possible count, over the same number
+    other-is : candidate t v (f + 2) ≡ moved (bitXor old swap) (changeAt (f + 2))
+    unfolding candidate old
+    other-is =
+        ap (λ (x : ℕ). moved x (changeAt (f + 2)))
+        (sym (ap (bitXor (bitXor v (patternAt t f))) (sym (sign-swap f hf)) ∙ xor-assoc v (patternAt t f) (bitXor (patternAt t f) (patternAt t (f + 2)))
+        ∙ ap (bitXor v) (xor-undo-l (patternAt t f) (patternAt t (f + 2)))))
+
+    continued-pattern : (c n : ℕ) → tracked t c bits g ≡ Known n → Signed g (bitXor bits c)
+    continued-pattern c n e = ⊎-elim (λ none. absurd (known-is-not-unknown n (sym e ∙ none))) (λ h. h) (tracked-cases c bits g)
+
+    pub one-continued : (a b : ℕ) → tracked t (candidate t v f) bits g ≡ Known a → tracked t (candidate t v (f + 2)) bits g ≡ Known b
+        → candidate t v (f + 2) ≡ candidate t v f
+    unfolding candidate old
+    one-continued a b ea eb =
+        let c : ℕ = candidate t v f in
+        let back : bitXor c (bitXor bits c) ≡ bits = ap (bitXor c) (xor-comm bits c) ∙ xor-undo-l c bits in
+        let o = other-is in
+        o
+        ∙ only _ _ swap (sign-swap g hg) old (changeAt f) (changeAt (f + 2)) (bitXor bits c) (bitXor bits (candidate t v (f + 2))) (sign-odd f hf)
+        (continued-pattern c a ea) (continued-pattern (candidate t v (f + 2)) b eb) (ap₂ bitXor back (sym o))

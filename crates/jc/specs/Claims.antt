@@ -1,7 +1,7 @@
 -- What two sinks may rely on, for every table of patterns that keeps the rule and not only for the paper's. Assumes nothing.
 use mathlib.Core.Path.{_≡_}
 use mathlib.Core.Bool.{false}
-use Prim.Native.Nat.{ℕ}
+use Prim.Native.Nat.{ℕ, _+_, _<_}
 use Rattle.bits.specs.Choice.{pick}
 use Rattle.settings.specs.declared.Settings.{Settings}
 use Rattle.settings.specs.Settings.{Fit, outside}
@@ -13,7 +13,7 @@ use Rattle.jc.specs.Word.{equalIndicators}
 use Rattle.jc.specs.Pattern.{Table, standard, Rule}
 use Rattle.jc.specs.Announce.{announced}
 use Rattle.jc.specs.Standing.{finding, READ, TRACKED}
-use Rattle.jc.specs.Follow.{signed, foundBy}
+use Rattle.jc.specs.Follow.{signed, tracked, candidate, foundBy}
 
 -- a true count is followed to the next, READ where II = DI and otherwise TRACKED
 abbrev pub FollowsTrueCount : Table → Type 0
@@ -30,7 +30,12 @@ RecoversInTwo t =
     → let v = announced t old mid in
     foundBy t s (foundBy t s count before v .count) (signed (Word v)) (announced t mid next) .count ≡ Known next
 
+-- "the one which this word continues": where both possible counts of a word are continued, they lead to the same count
+abbrev pub ContinuesOne : Table → Type 0
+ContinuesOne t =
+    (before f bits g a b : ℕ) → f < 2 → g < 2 → tracked t (candidate t before f) bits g ≡ Known a → tracked t (candidate t before (f + 2)) bits g ≡ Known b → a ≡ b
+
 -- every table that keeps the rule serves, and the paper's does
 pub record TablesServe : Type 0 where
-  pub every : (t : Table) → Rule t → FollowsTrueCount t × RecoversInTwo t
+  pub every : (t : Table) → Rule t → FollowsTrueCount t × RecoversInTwo t × ContinuesOne t
   pub paper : Rule standard

@@ -9,8 +9,8 @@ use lib.Dec.{eqb, ltb, leb, lit<}
 use borrow.Author.Tests.{eqb-false, ltb-false, leb-false, le-ltb, eq-eqb, ne-eqb}
 use Rattle.bits.specs.Choice.{pick, either, neither}
 use Rattle.settings.specs.declared.Settings.{Settings}
-use Rattle.settings.specs.Refusals.{accepted, refused}
-use Rattle.settings.specs.Settings.{Fit, outside}
+use Rattle.settings.specs.Refusals.{ascending, accepted, refused}
+use Rattle.settings.specs.Settings.{settingsReasons, Fit, outside}
 use Rattle.settings.proofs.Laws.{none-applies, settings-fit, all-passed}
 use Rattle.rate.specs.Rate.{badDivisor, badRate, badRemainder, keeperReasons, keeperNumber, keptBy, keeperCall}
 
@@ -70,3 +70,7 @@ pub call-refused : (s : Settings) (p q r : ℕ) → (keeperNumber s p q r ≡ 0 
     → keeperCall s p q r ≡ record { answer = refused (keeperNumber s p q r); remainder = r }
 unfolding keeperCall
 call-refused s p q r h = simp (ne-eqb _ _ h)
+
+-- the lines of the keeper's table stand in ascending order
+pub keeper-ascending : (s : Settings) (p q r : ℕ) → ascending 0 (settingsReasons s ++ keeperReasons s p q r) ≡ true
+keeper-ascending s p q r = refl

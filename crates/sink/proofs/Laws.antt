@@ -11,8 +11,8 @@ use Rattle.bits.specs.Choice.{pick}
 use Rattle.crc8.specs.Check.{passes}
 use Rattle.settings.specs.declared.Settings.{Settings}
 use Rattle.settings.specs.Grid.{payloadBytes, frameBytes}
-use Rattle.settings.specs.Refusals.{accepted, refused}
-use Rattle.settings.specs.Settings.{Fit, outside}
+use Rattle.settings.specs.Refusals.{ascending, accepted, refused}
+use Rattle.settings.specs.Settings.{settingsReasons, Fit, outside}
 use Rattle.settings.proofs.Laws.{none-applies, all-passed, settings-fit, inside-window}
 use Rattle.jc.specs.declared.Count.{Count}
 use Rattle.jc.specs.declared.Count.the-variants.{Known, Unknown}
@@ -137,3 +137,7 @@ hands-out s z frame out n after zero known e =
 -- a state by its two parts
 pub state-of-parts : (count : Count) (word : Remembered) (x : SinkState) → count ≡ x .count → word ≡ x .word → record { count = count; word = word } ≡ x
 state-of-parts count word x e f = ap₂ (λ (c : Count) (w : Remembered). record { count = c; word = w }) e f
+
+-- the lines of the sink's table stand in ascending order
+pub sink-ascending : (s : Settings) (f o : ℕ) → ascending 0 (settingsReasons s ++ sinkReasons s f o) ≡ true
+sink-ascending s f o = refl

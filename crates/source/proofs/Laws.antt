@@ -1,7 +1,7 @@
 -- What an accepted call of the source knows, and the cases of its definitions. Assumes nothing.
-use mathlib.Core.Path.{_≡_, ap, _∙_}
+use mathlib.Core.Path.{_≡_, refl}
 use mathlib.Core.Bool.{Bool, true, false, not}
-use mathlib.Core.List.{List}
+use mathlib.Core.List.{List, _++_}
 use Prim.Native.Nat.{ℕ, _≤_, _<_}
 use native.Mathlib.Omega.{arith}
 use lib.Dec.{eqb, lit<}
@@ -12,7 +12,8 @@ use Rattle.crc8.specs.Check.{passes}
 use Rattle.crc8.proofs.Laws.{written-passes, remainder-lt}
 use Rattle.settings.specs.declared.Settings.{Settings}
 use Rattle.settings.specs.Grid.{payloadBytes, frameBytes}
-use Rattle.settings.specs.Settings.{Fit, outside}
+use Rattle.settings.specs.Refusals.{ascending}
+use Rattle.settings.specs.Settings.{settingsReasons, Fit, outside}
 use Rattle.settings.proofs.Laws.{none-applies, all-passed, settings-fit, inside-window}
 use Rattle.jc.specs.Word.{bytesOf, wordBy}
 use Rattle.jc.specs.Pattern.{tableOf}
@@ -105,3 +106,10 @@ client-of-written s z next client h = client-taken (s .k) client (controlBytes s
 pub length-of-written : (s : Settings) (z : SourceState) (next : ℕ) (client : List ℕ) → length (written s z next client) ≡ frameBytes (s .k)
 unfolding written
 length-of-written s z next client = length-frame (s .k) client (controlBytes s (z .count) next) (psi z)
+
+-- the lines of both tables stand in ascending order
+pub start-ascending : (s : Settings) (first : ℕ) → ascending 0 (settingsReasons s ++ startReasons s first) ≡ true
+start-ascending s first = refl
+
+pub source-ascending : (s : Settings) (z : SourceState) (next c b : ℕ) → ascending 0 (settingsReasons s ++ sourceReasons s z next c b) ≡ true
+source-ascending s z next c b = refl
