@@ -1,0 +1,188 @@
+//! Times the proved source call and sink call on frames beside plain and fast versions that nobody proved, in one run, as ratios.
+//! All versions are first seen to agree. `cargo run --release -p bench -- check` only does that.
+
+use odu0::{Settings, Sink, Source, Tally};
+use std::hint::black_box;
+use std::time::Instant;
+
+extern "C" {
+    fn loop_place(frame: *mut u8, client: *const u8, k: usize, c: usize);
+    fn loop_take(frame: *const u8, out: *mut u8, k: usize, c: usize);
+    fn runs_place(frame: *mut u8, client: *const u8, k: usize, c: usize);
+    fn runs_take(frame: *const u8, out: *mut u8, k: usize, c: usize);
+}
+
+/// The runs of client bytes of a frame: for each row its runs' lengths, by one division for the frame.
+fn each_run(k: usize, c: usize, mut run: impl FnMut(usize, usize, bool)) {
+    let d = 4 * k - c;
+    let (q, r) = if d == 0 { (4 * k, 0) } else { (c / d, c % d) };
+    let (mut m, mut e) = (if d == 0 { 4 * k } else { 0 }, 0);
+    for row in 0..4 {
+        let start = row * (k + 2) + 2;
+        let mut i = 0;
+        while i + m < k {
+            run(start + i, m, true);
+            i += m + 1;
+            e += r;
+            m = q;
+            if e >= d {
+                e -= d;
+                m += 1;
+            }
+        }
+        run(start + i, k - i, false);
+        m -= k - i;
+    }
+}
+
+fn rust_place(frame: &mut [u8], mut client: &[u8], k: usize) {
+    each_run(k, client.len(), |at, m, stuffing| {
+        let (now, later) = client.split_at(m);
+        frame[at..at + m].copy_from_slice(now);
+        if stuffing {
+            frame[at + m] = 0;
+        }
+        client = later;
+    });
+}
+
+fn rust_take(frame: &[u8], out: &mut [u8], k: usize, c: usize) {
+    let mut j = 0;
+    each_run(k, c, |at, m, _| {
+        out[j..j + m].copy_from_slice(&frame[at..at + m]);
+        j += m;
+    });
+}
+
+/// A grid with a count: the frame that the library writes for it, with its client bytes.
+struct Job {
+    settings: Settings,
+    client: Vec<u8>,
+    frame: Vec<u8>,
+}
+
+impl Job {
+    fn new(k: u32, count: u32) -> Self {
+        let settings = Settings { k, lo: 0, hi: 4 * k };
+        let client: Vec<u8> = (0..count).map(|i| (i * 7 + 1) as u8).collect();
+        let mut frame = vec![0; 4 * k as usize + 8];
+        let mut source = Source::new(settings, count, 7).unwrap();
+        source.call(settings, count, &client, &mut frame).unwrap();
+        Job { settings, client, frame }
+    }
+
+    fn agree(&self) {
+        let (k, c) = (self.settings.k as usize, self.client.len());
+        let blank = || {
+            let mut f = self.frame.clone();
+            for row in 0..4 {
+                f[row * (k + 2) + 2..(row + 1) * (k + 2)].fill(0xEE);
+            }
+            f
+        };
+        let (mut a, mut b, mut r) = (blank(), blank(), blank());
+        // SAFETY: each frame has 4k + 8 bytes and the client has c.
+        unsafe {
+            loop_place(a.as_mut_ptr(), self.client.as_ptr(), k, c);
+            runs_place(b.as_mut_ptr(), self.client.as_ptr(), k, c);
+        }
+        rust_place(&mut r, &self.client, k);
+        assert!(a == self.frame && b == self.frame && r == self.frame, "placing differs: k {k}, count {c}");
+        let mut outs = vec![vec![0u8; 4 * k]; 4];
+        // SAFETY: the frame has 4k + 8 bytes and each output 4k.
+        unsafe {
+            loop_take(self.frame.as_ptr(), outs[0].as_mut_ptr(), k, c);
+            runs_take(self.frame.as_ptr(), outs[1].as_mut_ptr(), k, c);
+        }
+        rust_take(&self.frame, &mut outs[2], k, c);
+        let mut sink = Sink { count: Some(c as u32), word: None };
+        sink.call(self.settings, &self.frame, &mut outs[3], &mut Tally::default()).unwrap();
+        assert!(outs.iter().all(|o| o[..c] == self.client[..]), "taking differs: k {k}, count {c}");
+    }
+}
+
+/// Nanoseconds for one call of each version: the best of several rounds, in each of which every version has its turn.
+fn race<const N: usize>(mut versions: [Box<dyn FnMut() + '_>; N]) -> [f64; N] {
+    let mut best = [f64::MAX; N];
+    for _ in 0..40 {
+        for (version, best) in versions.iter_mut().zip(&mut best) {
+            let calls = 200;
+            let began = Instant::now();
+            (0..calls).for_each(|_| version());
+            *best = best.min(began.elapsed().as_nanos() as f64 / calls as f64);
+        }
+    }
+    best
+}
+
+/// The times of source and sink: ours, the C byte loop, C runs, Rust runs, and one memcpy of the frame.
+fn measure(job: &Job) -> ([f64; 5], [f64; 5]) {
+    let (k, c, s) = (job.settings.k as usize, job.client.len(), job.settings);
+    let client = &job.client[..];
+    let mut frames = [(); 5].map(|_| job.frame.clone());
+    let [f0, f1, f2, f3, f4] = &mut frames;
+    let mut source = Source::new(s, c as u32, 7).unwrap();
+    // SAFETY, here and below: every frame has 4k + 8 bytes, every output 4k, and the client has c.
+    let place = race([
+        Box::new(|| source.call(s, c as u32, black_box(client), black_box(f0)).unwrap()),
+        Box::new(|| unsafe { loop_place(black_box(&mut *f1).as_mut_ptr(), black_box(client).as_ptr(), k, c) }),
+        Box::new(|| unsafe { runs_place(black_box(&mut *f2).as_mut_ptr(), black_box(client).as_ptr(), k, c) }),
+        Box::new(|| rust_place(black_box(f3), black_box(client), k)),
+        Box::new(|| black_box(&mut *f4).copy_from_slice(black_box(&job.frame))),
+    ]);
+    let mut outs = [(); 5].map(|_| vec![0u8; 4 * k + 8]);
+    let [o0, o1, o2, o3, o4] = &mut outs;
+    let frame = &job.frame[..];
+    let mut sink = Sink { count: Some(c as u32), word: None };
+    let mut tally = Tally::default();
+    let take = race([
+        Box::new(|| {
+            sink.call(s, black_box(frame), black_box(o0), &mut tally).unwrap();
+        }),
+        Box::new(|| unsafe { loop_take(black_box(frame).as_ptr(), black_box(&mut *o1).as_mut_ptr(), k, c) }),
+        Box::new(|| unsafe { runs_take(black_box(frame).as_ptr(), black_box(&mut *o2).as_mut_ptr(), k, c) }),
+        Box::new(|| rust_take(black_box(frame), black_box(o3), k, c)),
+        Box::new(|| black_box(&mut *o4).copy_from_slice(black_box(frame))),
+    ]);
+    (place, take)
+}
+
+fn show(title: &str, t: [f64; 5]) {
+    println!(
+        "{title:<28} {:>9.0} ns   {:.2} of the C byte loop, {:.2} of C runs, {:.2} of Rust runs, {:.2} of memcpy",
+        t[0],
+        t[0] / t[1],
+        t[0] / t[2],
+        t[0] / t[3],
+        t[0] / t[4]
+    );
+}
+
+fn main() {
+    for k in 1..40 {
+        for c in 0..=4 * k {
+            Job::new(k, c).agree();
+        }
+    }
+    let opu0 = Job::new(3808, 14407);
+    opu0.agree();
+    println!("all versions agree");
+    if std::env::args().nth(1).as_deref() == Some("check") {
+        return;
+    }
+    let (place, take) = measure(&opu0);
+    show("source call, OPU0, 14407", place);
+    show("sink call, OPU0, 14407", take);
+    println!("with K, at 14407 / 15232 of the payload:");
+    for k in [119, 476, 1904, 3808] {
+        let (p, t) = measure(&Job::new(k, (4 * k) * 14407 / 15232));
+        show(&format!("  source, K = {k}"), p);
+        show(&format!("  sink, K = {k}"), t);
+    }
+    println!("with the count, K = 3808:");
+    for c in [1000, 7616, 11424, 14000, 14407, 15000, 15232] {
+        let (p, t) = measure(&Job::new(3808, c));
+        show(&format!("  source, count {c}"), p);
+        show(&format!("  sink, count {c}"), t);
+    }
+}
