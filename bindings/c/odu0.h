@@ -56,7 +56,10 @@ typedef struct odu0_source {
     uint8_t kind;
 } odu0_source;
 
-/* A sink's state: a known count or none, a remembered word (JC1 * 256 + JC2) or none. A flag of 0 says none, whatever the number beside it. */
+/*
+ * A sink's state: a known count or none, a remembered word (JC1 * 256 + JC2) or none. A flag of 0 says none, whatever the number beside it; any other
+ * flag says that the number counts. Of a word above 65,535 the low 16 bits are used. A refused call returns the very numbers that it was given.
+ */
 typedef struct odu0_sink {
     uint32_t known;
     uint32_t count;

@@ -10,6 +10,7 @@ use Rattle.jc.specs.declared.Standing.{Standing}
 use Rattle.jc.specs.Standing.{Finding, finding, READ, TRACKED, PAIRED, BADCHECK, WAITING, OUTSIDE, said}
 use Rattle.tally.specs.declared.Tally.{Tally}
 use Rattle.sink.specs.declared.SinkState.{SinkState}
+use Rattle.odu0.specs.declared.SinkNumbers.{SinkNumbers}
 use Rattle.odu0.specs.declared.SinkReply.{SinkReply}
 use Rattle.odu0.specs.Numbers.{countFrom, stateFrom, stateNumbers, sinkReplyBy, tallyFrom, tallyNumbers}
 
@@ -29,6 +30,6 @@ answerFrom r = pick (eqb (r .standing) 0) (refused (r .refusal)) (accepted (find
 
 pub record Lossless : Type 0 where
   pub state : (z : SinkState) → stateFrom (stateNumbers z) ≡ z
-  pub standing : (x : Standing) (handed : ℕ) (z : SinkState) → answerFrom (sinkReplyBy (accepted (said x)) handed z) ≡ accepted (said x)
-  pub refusal : (n handed : ℕ) (z : SinkState) → answerFrom (sinkReplyBy (refused n) handed z) ≡ refused n
+  pub standing : (given : SinkNumbers) (x : Standing) (handed : ℕ) (z : SinkState) → answerFrom (sinkReplyBy given (accepted (said x)) handed z) ≡ accepted (said x)
+  pub refusal : (given : SinkNumbers) (n handed : ℕ) (z : SinkState) → answerFrom (sinkReplyBy given (refused n) handed z) ≡ refused n
   pub tally : (y : Tally) → tallyFrom (tallyNumbers y) ≡ y

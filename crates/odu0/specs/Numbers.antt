@@ -98,20 +98,25 @@ countOf (refused k) = 0
 abbrev pub keeperReply : Kept → KeeperReply
 keeperReply k = record { refusal = refusalOf (k .answer); count = countOf (k .answer); remainder = k .remainder }
 
--- a sink call, over the lists of its buffers
-abbrev pub sinkReplyBy : Answer Finding → ℕ → SinkState → SinkReply
-sinkReplyBy a handed z =
+-- the state that a sink call returns: a refused call returns the very numbers that it was given
+abbrev pub stateReply : SinkNumbers → Answer Finding → SinkState → SinkNumbers
+stateReply x (accepted f) z = stateNumbers z
+stateReply x (refused n) z = x
+
+abbrev pub sinkReplyBy : SinkNumbers → Answer Finding → ℕ → SinkState → SinkReply
+sinkReplyBy x a handed z =
     record {
       refusal = refusalOf a;
       standing = standingOf a;
       found = countFlag (foundOf a);
       count = countNumber (foundOf a);
       handed = handed;
-      state = stateNumbers z;
+      state = stateReply x a z;
     }
 
-abbrev pub sinkReply : Settings → SinkState → List ℕ → List ℕ → SinkReply
-sinkReply s z frame out = sinkReplyBy (sinkAnswer s z frame out) (length (sinkHanded s z frame out)) (sinkState s z frame out)
+-- a sink call from the numbers x, over the lists of its buffers
+abbrev pub sinkReply : Settings → SinkNumbers → SinkState → List ℕ → List ℕ → SinkReply
+sinkReply s x z frame out = sinkReplyBy x (sinkAnswer s z frame out) (length (sinkHanded s z frame out)) (sinkState s z frame out)
 
 -- the tally as three numbers in a row
 abbrev pub tallyFrom : List ℕ → Tally
@@ -122,6 +127,6 @@ tallyNumbers y = y .frames ∷ y .bad ∷ y .bytes ∷ []
 
 -- What the sink call promises: its reply, every byte of the output buffer, and the three numbers of the tally.
 pub record SinkCallPromise (s : Settings) (x : SinkNumbers) (frame out tally : List ℕ) (r : SinkReply) (out-after tally-after : List ℕ) : Type 0 where
-  pub reply : r ≡ sinkReply s (stateFrom x) frame out
+  pub reply : r ≡ sinkReply s x (stateFrom x) frame out
   pub out-buffer : out-after ≡ sinkOut s (stateFrom x) frame out
   pub tally-numbers : tally-after ≡ tallyNumbers (tallyAfter s (stateFrom x) frame out (tallyFrom tally))

@@ -19,7 +19,7 @@ ghost use Rattle.jc.specs.Standing.{said};
 ghost use Rattle.rate.specs.Rate.{keeperCall, firstRemainder, told as keptTold};
 ghost use Rattle.source.specs.Source.{newSource, startTold, sourceFrame};
 ghost use Rattle.sink.specs.Sink.{newSink, told};
-ghost use Rattle.odu0.specs.Numbers.{countFrom, countFlag, countNumber, wordFrom, wordFlag, wordNumber, stateFrom, stateNumbers, refusalOf, standingOf, standingNumber, foundOf, startReply, sourceReply, keeperReply, sinkReplyBy, SinkCallPromise};
+ghost use Rattle.odu0.specs.Numbers.{countFrom, countFlag, countNumber, wordFrom, wordFlag, wordNumber, stateFrom, stateNumbers, refusalOf, standingOf, standingNumber, foundOf, startReply, sourceReply, keeperReply, stateReply, sinkReplyBy, SinkCallPromise};
 ghost use Rattle.odu0.specs.Lossless.{Lossless};
 
 // A sink's state: a flag, 0 for none, beside the count and beside the remembered word.
@@ -133,7 +133,7 @@ pub extern "C" fn odu0_sink_call(
     let bytes = after.bytes;
     *tally = [frames, bad, bytes];
     let result = called.result;
-    sink_reply(result)
+    sink_reply(state, result)
 }
 
 // What crosses can be read back.
@@ -179,8 +179,8 @@ fn keeper_reply(result: KeeperResult) -> KeeperReply
     }
 }
 
-fn sink_reply(result: SinkResult) -> SinkReply
-    ensures { λ r. ⌜ r ≡ sinkReplyBy (told (result .answer)) (result .handed) (result .state) ⌝ }
+fn sink_reply(given: SinkNumbers, result: SinkResult) -> SinkReply
+    ensures { λ r. ⌜ r ≡ sinkReplyBy given (told (result .answer)) (result .handed) (result .state) ⌝ }
 {
     let answer = result.answer;
     let state = result.state;
@@ -191,8 +191,18 @@ fn sink_reply(result: SinkResult) -> SinkReply
         found: count_flag(found),
         count: count_number(found),
         handed: result.handed,
-        state: state_numbers(state),
+        state: state_after(given, answer, state),
     }
+}
+
+// The state that a call returns: a refused call returns the very numbers that it was given.
+fn state_after(given: SinkNumbers, answer: SinkAnswer, state: SinkState) -> SinkNumbers
+    ensures { λ r. ⌜ r ≡ stateReply given (told answer) state ⌝ }
+{
+    let SinkAnswer::Done(_) = answer else {
+        return given;
+    };
+    state_numbers(state)
 }
 
 // The number of the refusal, or 0.

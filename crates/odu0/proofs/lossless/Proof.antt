@@ -10,6 +10,7 @@ use Rattle.jc.specs.declared.Standing.{Standing}
 use Rattle.jc.specs.declared.Standing.the-variants.{Read, Tracked, Paired, BadCheck, Waiting, Outside}
 use Rattle.jc.specs.Standing.{said}
 use Rattle.sink.specs.declared.SinkState.{SinkState}
+use Rattle.odu0.specs.declared.SinkNumbers.{SinkNumbers}
 use Rattle.odu0.specs.Numbers.{countFrom, countFlag, countNumber, wordFrom, wordFlag, wordNumber, stateFrom, stateNumbers, sinkReplyBy}
 use Rattle.odu0.specs.Lossless.{answerFrom}
 use Rattle.odu0.proofs.lossless.Statement.{statement}
@@ -26,16 +27,16 @@ word-back Nothing = refl
 state-back : (z : SinkState) → stateFrom (stateNumbers z) ≡ z
 state-back z = ap₂ (λ (c : Count) (w : Remembered). record { count = c; word = w }) (count-back (z .count)) (word-back (z .word))
 
-standing-back : (x : Standing) (handed : ℕ) (z : SinkState) → answerFrom (sinkReplyBy (accepted (said x)) handed z) ≡ accepted (said x)
-standing-back (Read n) handed z = refl
-standing-back (Tracked n) handed z = refl
-standing-back (Paired n) handed z = refl
-standing-back BadCheck handed z = refl
-standing-back Waiting handed z = refl
-standing-back Outside handed z = refl
+standing-back : (given : SinkNumbers) (x : Standing) (handed : ℕ) (z : SinkState) → answerFrom (sinkReplyBy given (accepted (said x)) handed z) ≡ accepted (said x)
+standing-back given (Read n) handed z = refl
+standing-back given (Tracked n) handed z = refl
+standing-back given (Paired n) handed z = refl
+standing-back given BadCheck handed z = refl
+standing-back given Waiting handed z = refl
+standing-back given Outside handed z = refl
 
 returns : tie.Need-returns
-returns c = record { state = state-back; standing = standing-back; refusal = λ n handed z. refl; tally = λ y. refl }
+returns c = record { state = state-back; standing = standing-back; refusal = λ given n handed z. refl; tally = λ y. refl }
 
 pub lossless-spec : {M : Type 1} → statement M
 lossless-spec = tie.close (tie.spec returns)

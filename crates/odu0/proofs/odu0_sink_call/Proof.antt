@@ -11,18 +11,20 @@ use Rattle.sink.specs.declared.SinkState.{SinkState}
 use Rattle.sink.specs.declared.SinkResult.{SinkResult}
 use Rattle.sink.specs.Sink.{told, sinkAnswer, sinkHanded, sinkOut, SinkPromise}
 use Rattle.card.specs.Card.{tallyAfter}
+use Rattle.odu0.specs.declared.SinkNumbers.{SinkNumbers}
 use Rattle.odu0.specs.Numbers.{stateFrom, sinkReplyBy, sinkReply, tallyFrom, tallyNumbers}
 use Rattle.odu0.proofs.odu0_sink_call.Statement.{statement}
 use Rattle.odu0.proofs.odu0_sink_call.Tie as tie
 
 -- the reply of a call that keeps its promise, for the state z that the given one equals
-sink-told : (s : Settings) (x z : SinkState) (frame out : List ℕ) (r : SinkResult) (after : List ℕ) → x ≡ z → SinkPromise s x frame out r after
-    → sinkReplyBy (told (r .answer)) (r .handed) (r .state) ≡ sinkReply s z frame out
-sink-told s x z frame out r after e p =
-    ap (λ (a : Answer Finding). sinkReplyBy a (r .handed) (r .state)) (p .answer)
-    ∙ ap (λ (n : ℕ). sinkReplyBy (sinkAnswer s x frame out) n (r .state)) (p .handed-bytes)
-    ∙ ap (sinkReplyBy (sinkAnswer s x frame out) (length (sinkHanded s x frame out))) (p .state)
-    ∙ ap (λ (y : SinkState). sinkReply s y frame out) e
+sink-told : (s : Settings) (given : SinkNumbers) (x z : SinkState) (frame out : List ℕ) (r : SinkResult) (after : List ℕ) → x ≡ z → SinkPromise s x frame out r after
+    → sinkReplyBy given (told (r .answer)) (r .handed) (r .state) ≡ sinkReply s given z frame out
+sink-told s given x z frame out r after e p =
+    ap (λ (a : Answer Finding). sinkReplyBy given a (r .handed) (r .state)) (p .answer)
+    ∙ ap (λ (n : ℕ). sinkReplyBy given (sinkAnswer s x frame out) n (r .state)) (p .handed-bytes)
+    ∙ ap (sinkReplyBy given (sinkAnswer s x frame out) (length (sinkHanded s x frame out))) (p .state)
+    ∙ ap (λ (y : SinkState). sinkReply s given y frame out) e
+
 
 array-read-t17 : tie.Need-array-read-t17
 array-read-t17 c = search needs
@@ -46,7 +48,7 @@ same-length : tie.Need-same-length
 same-length c = search needs
 
 returns : tie.Need-returns
-returns c =
+returns c = 
     let g = c .before .before .before .before .before .before .before .before .before .before .before .before .args in
     let s = g .settings in
     let frame = g .frame .now in
@@ -54,8 +56,7 @@ returns c =
     let state = c .before .before .before .before .before .before .before .before .state-from .ensures in
     let p = c .before .before .before .before .before .before .count-call .ensures in
     record {
-      reply = c .sink-reply .ensures
-          ∙ sink-told s _ (stateFrom (g .state)) frame out _ _ state (p .sink);
+      reply = c .sink-reply .ensures ∙ sink-told s (g .state) _ (stateFrom (g .state)) frame out _ _ state (p .sink);
       out-buffer = p .sink .out-buffer ∙ ap (λ (z : SinkState). sinkOut s z frame out) state;
       tally-numbers = ap tallyNumbers (p .tally ∙ ap (λ (z : SinkState). tallyAfter s z frame out (tallyFrom (g .tally .now))) state);
     }

@@ -1,11 +1,8 @@
 -- `odu0::sink_reply` meets its contract. Assumes nothing.
-use mathlib.Core.Path.{_≡_, _∙_, ap}
-use Prim.Native.Nat.{ℕ}
 use borrow.Author.Needs.{needs}
-use Rattle.jc.specs.declared.Count.{Count}
-use Rattle.odu0.specs.Numbers.{countFlag, countNumber}
 use Rattle.odu0.proofs.sink_reply.Statement.{statement}
 use Rattle.odu0.proofs.sink_reply.Tie as tie
+
 
 found-of-requires : tie.Need-found-of-requires
 found-of-requires c κs = search needs
@@ -22,13 +19,13 @@ count-flag-requires c κs = search needs
 count-number-requires : tie.Need-count-number-requires
 count-number-requires c κs = search needs
 
-state-numbers-requires : tie.Need-state-numbers-requires
-state-numbers-requires c κs = search needs
+state-after-requires : tie.Need-state-after-requires
+state-after-requires c κs = search needs
 
 returns : tie.Need-returns
-returns c =
+returns c = 
     let found = c .before .before .before .before .before .found-of .ensures in
-    simp (c .state-numbers .ensures, c .before .count-number .ensures, c .before .before .count-flag .ensures, c .before .before .before .standing-of .ensures, c .before .before .before .before .refusal-of .ensures, found)
+    simp (c .state-after .ensures, c .before .count-number .ensures, c .before .before .count-flag .ensures, c .before .before .before .standing-of .ensures, c .before .before .before .before .refusal-of .ensures, found)
 
 pub sink-reply-spec : {M : Type 1} → statement M
 sink-reply-spec =
@@ -39,5 +36,5 @@ sink-reply-spec =
     standing-of-requires
     count-flag-requires
     count-number-requires
-    state-numbers-requires
+    state-after-requires
     returns)

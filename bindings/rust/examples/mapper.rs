@@ -1,0 +1,60 @@
+//! A small job: a rate keeper, a source and a sink on OPU0. The sink begins to read in the middle of the source's run, at a frame whose word
+//! says only "one more than before"; and one frame is harmed on its way. bindings/c/example.c does the same and prints the same lines.
+
+use odu0::{Keeper, Refusal, Settings, Sink, Source, Tally};
+
+/// The rate of 1000BASE-X is P / Q client bytes a frame.
+const P: u32 = 18671875;
+const Q: u32 = 1296;
+
+/// The sink reads from frame FROM, and frame HARMED is harmed.
+const FRAMES: u32 = 12;
+const FROM: u32 = 3;
+const HARMED: u32 = 9;
+
+fn main() -> Result<(), Refusal> {
+    let opu0 = Settings::OPU0;
+    let mut tally = Tally::default();
+    let mut sink = Sink::new();
+    let mut frame = vec![0; 15240];
+    let mut out = vec![0; 14410];
+
+    // The keeper's first count is the source's first; 07 is the payload type.
+    let mut keeper = Keeper::new(Q);
+    let mut source = Source::new(opu0, keeper.call(opu0, P, Q)?, 0x07)?;
+
+    for n in 1..=FRAMES {
+        // The client's bytes are a pattern that differs from frame to frame.
+        let client: Vec<u8> = (0..source.count).map(|i| (i % 251 + n) as u8).collect();
+
+        // The frame carries "count" of them and announces the count of the next.
+        let next = keeper.call(opu0, P, Q)?;
+        source.call(opu0, next, &client, &mut frame)?;
+
+        // On the way, two bits of JC1 and one of JC2 are turned over in one frame.
+        if n == HARMED {
+            frame[1] ^= 0x11;
+            frame[3808 + 2 + 1] ^= 0x80;
+        }
+
+        if n < FROM {
+            continue;
+        }
+        let taken = sink.call(opu0, &frame, &mut out, &mut tally)?;
+        let count = taken.standing.count().map_or("-".to_string(), |count| count.to_string());
+        let equal = out[..taken.handed as usize] == client[..];
+        println!(
+            "frame {n}: {}, count {count}, handed {}, equal {}",
+            taken.standing.name(),
+            taken.handed,
+            if equal { "yes" } else { "no" }
+        );
+    }
+    println!("tally: frames {}, bad {}, bytes {}", tally.frames, tally.bad, tally.bytes);
+
+    // A frame that is one byte short is turned back, and changes nothing.
+    frame.pop();
+    let refusal = sink.call(opu0, &frame, &mut out, &mut tally).unwrap_err();
+    println!("a frame of {} bytes: refusal {}", frame.len(), refusal.number());
+    Ok(())
+}

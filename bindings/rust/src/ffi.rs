@@ -1,0 +1,69 @@
+//! The C interface as bindings/c/odu0.h gives it: the functions, and those of their types that Rust says in another way.
+
+#![allow(missing_docs)]
+
+use crate::{Settings, Source, Tally};
+
+/// odu0_sink: a flag of 0 says none, whatever the number beside it.
+#[repr(C)]
+#[derive(Clone, Copy, Debug, PartialEq, Eq)]
+pub struct Sink {
+    pub known: u32,
+    pub count: u32,
+    pub remembered: u32,
+    pub word: u32,
+}
+
+/// odu0_source_reply
+#[repr(C)]
+#[derive(Clone, Debug, PartialEq, Eq)]
+pub struct SourceReply {
+    pub refusal: u32,
+    pub state: Source,
+}
+
+/// odu0_keeper_reply
+#[repr(C)]
+#[derive(Clone, Copy, Debug, PartialEq, Eq)]
+pub struct KeeperReply {
+    pub refusal: u32,
+    pub count: u32,
+    pub remainder: u32,
+}
+
+/// odu0_sink_reply
+#[repr(C)]
+#[derive(Clone, Copy, Debug, PartialEq, Eq)]
+pub struct SinkReply {
+    pub refusal: u32,
+    pub standing: u32,
+    pub found: u32,
+    pub count: u32,
+    pub handed: u32,
+    pub state: Sink,
+}
+
+extern "C" {
+    pub fn odu0_source_new(settings: Settings, first: u32, kind: u8) -> SourceReply;
+    pub fn odu0_source_call(
+        settings: Settings,
+        state: Source,
+        next: u32,
+        client: *const u8,
+        client_len: usize,
+        frame: *mut u8,
+        frame_len: usize,
+    ) -> SourceReply;
+    pub fn odu0_keeper_new(q: u32) -> u32;
+    pub fn odu0_keeper_call(settings: Settings, p: u32, q: u32, remainder: u32) -> KeeperReply;
+    pub fn odu0_sink_new() -> Sink;
+    pub fn odu0_sink_call(
+        settings: Settings,
+        state: Sink,
+        frame: *const u8,
+        frame_len: usize,
+        out: *mut u8,
+        out_len: usize,
+        tally: *mut Tally,
+    ) -> SinkReply;
+}

@@ -1,0 +1,311 @@
+//! The ODU0 generic mapper for Rust: source, rate keeper and sink of a line card.
+//!
+//! Every call accepts every value of every number and buffers of every length, and ends with an answer or a [`Refusal`]. A refused call
+//! changes no buffer, no state and no tally. The library keeps no state of its own; a state is plain numbers in the caller's hands, and
+//! nothing here allocates. `examples/mapper.rs` shows a whole job.
+
+#![no_std]
+#![warn(missing_docs)]
+
+pub mod ffi;
+
+use core::fmt;
+
+/// The settings: the grid and the window.
+#[repr(C)]
+#[derive(Clone, Copy, Debug, PartialEq, Eq)]
+pub struct Settings {
+    /// Payload columns in a row, 1 to 3,808.
+    pub k: u32,
+    /// The smallest count.
+    pub lo: u32,
+    /// The largest count, at most 4 × k.
+    pub hi: u32,
+}
+
+impl Settings {
+    /// OPU0: 3,808 columns, counts 14,405 to 14,410.
+    pub const OPU0: Settings = Settings { k: 3808, lo: 14405, hi: 14410 };
+}
+
+/// Why a call is turned back. A call that more than one of these applies to answers the one with the lowest number.
+#[derive(Clone, Copy, Debug, PartialEq, Eq)]
+pub enum Refusal {
+    /// 1: k is 0 or above 3,808.
+    Grid = 1,
+    /// 2: lo > hi, or hi > 4 × k.
+    Window = 2,
+    /// 3: q is 0 or above 65,535.
+    Divisor = 3,
+    /// 4: the whole part of p / q is below lo, or p > hi × q.
+    Rate = 4,
+    /// 5: the source's count is outside the window, or the keeper's remainder is q or more.
+    State = 5,
+    /// 6: the next count is outside the window.
+    Count = 6,
+    /// 7: the client bytes are not exactly the present count.
+    Client = 7,
+    /// 8: the frame buffer is not exactly 4 × k + 8 bytes.
+    Frame = 8,
+    /// 9: the output buffer is shorter than hi.
+    Space = 9,
+}
+
+impl Refusal {
+    /// Every refusal, in the order of their numbers.
+    pub const ALL: [Refusal; 9] = [
+        Refusal::Grid,
+        Refusal::Window,
+        Refusal::Divisor,
+        Refusal::Rate,
+        Refusal::State,
+        Refusal::Count,
+        Refusal::Client,
+        Refusal::Frame,
+        Refusal::Space,
+    ];
+
+    /// Its number, 1 to 9.
+    pub fn number(self) -> u32 {
+        self as u32
+    }
+
+    /// Its word.
+    pub fn word(self) -> &'static str {
+        match self {
+            Refusal::Grid => "grid",
+            Refusal::Window => "window",
+            Refusal::Divisor => "divisor",
+            Refusal::Rate => "rate",
+            Refusal::State => "state",
+            Refusal::Count => "count",
+            Refusal::Client => "client",
+            Refusal::Frame => "frame",
+            Refusal::Space => "space",
+        }
+    }
+}
+
+/// The number of a reply: 0 says that the call was accepted.
+fn accepted(number: u32) -> Result<(), Refusal> {
+    if number == 0 {
+        return Ok(());
+    }
+    match Refusal::ALL.into_iter().find(|refusal| refusal.number() == number) {
+        Some(refusal) => Err(refusal),
+        None => panic!("libodu0 answered refusal {number}, which odu0.h does not have"),
+    }
+}
+
+impl fmt::Display for Refusal {
+    fn fmt(&self, f: &mut fmt::Formatter<'_>) -> fmt::Result {
+        write!(f, "{} (number {})", self.word(), self.number())
+    }
+}
+
+impl core::error::Error for Refusal {}
+
+/// What a sink says of a frame, with the count that it found.
+#[derive(Clone, Copy, Debug, PartialEq, Eq)]
+pub enum Standing {
+    /// The word holds the count itself.
+    Read(u32),
+    /// The known count moved as the word says.
+    Tracked(u32),
+    /// This word and the one before it lead to the count.
+    Paired(u32),
+    /// The control bytes fail the check.
+    BadCheck,
+    /// No count yet: the next word is awaited.
+    Waiting,
+    /// The count that was reached is outside the window.
+    Outside,
+}
+
+impl Standing {
+    /// Its name in capitals.
+    pub fn name(self) -> &'static str {
+        match self {
+            Standing::Read(_) => "READ",
+            Standing::Tracked(_) => "TRACKED",
+            Standing::Paired(_) => "PAIRED",
+            Standing::BadCheck => "BADCHECK",
+            Standing::Waiting => "WAITING",
+            Standing::Outside => "OUTSIDE",
+        }
+    }
+
+    /// The count that it found, if it found one.
+    pub fn count(self) -> Option<u32> {
+        match self {
+            Standing::Read(count) | Standing::Tracked(count) | Standing::Paired(count) => Some(count),
+            Standing::BadCheck | Standing::Waiting | Standing::Outside => None,
+        }
+    }
+}
+
+/// A source's state.
+#[repr(C)]
+#[derive(Clone, Debug, PartialEq, Eq)]
+pub struct Source {
+    /// The present count: how many client bytes the next frame carries.
+    pub count: u32,
+    /// The multiframe number of the next frame, 0 to 255; a larger one is taken modulo 256.
+    pub number: u32,
+    /// The payload type.
+    pub kind: u8,
+}
+
+impl Source {
+    /// A new source with its first count, inside the window, and its payload type. Refusals: grid, window, state.
+    pub fn new(settings: Settings, first: u32, kind: u8) -> Result<Source, Refusal> {
+        // SAFETY: the function takes and returns plain numbers, and every value of each is allowed.
+        let reply = unsafe { ffi::odu0_source_new(settings, first, kind) };
+        accepted(reply.refusal)?;
+        Ok(reply.state)
+    }
+
+    /// Writes the next frame, of 4 × k + 8 bytes, from exactly "present count" client bytes, and announces the next count in it.
+    /// Refusals: grid, window, state, count, client, frame.
+    pub fn call(&mut self, settings: Settings, next: u32, client: &[u8], frame: &mut [u8]) -> Result<(), Refusal> {
+        // SAFETY: each pointer is that of a live slice and stands before its length; `frame` is lent for writing, so they do not overlap.
+        let reply = unsafe {
+            ffi::odu0_source_call(
+                settings,
+                self.clone(),
+                next,
+                client.as_ptr(),
+                client.len(),
+                frame.as_mut_ptr(),
+                frame.len(),
+            )
+        };
+        *self = reply.state;
+        accepted(reply.refusal)
+    }
+}
+
+/// A rate keeper's state: it gives counts that run at p / q client bytes a frame.
+#[derive(Clone, Debug, PartialEq, Eq)]
+pub struct Keeper {
+    /// What is left over, in parts of q; below q.
+    pub remainder: u32,
+}
+
+impl Keeper {
+    /// A new keeper with the divisor q.
+    pub fn new(q: u32) -> Keeper {
+        // SAFETY: the function takes and returns a number, and every value of it is allowed.
+        let remainder = unsafe { ffi::odu0_keeper_new(q) };
+        Keeper { remainder }
+    }
+
+    /// The next count at p / q client bytes a frame. Refusals: grid, window, divisor, rate, state.
+    pub fn call(&mut self, settings: Settings, p: u32, q: u32) -> Result<u32, Refusal> {
+        // SAFETY: the function takes and returns plain numbers, and every value of each is allowed.
+        let reply = unsafe { ffi::odu0_keeper_call(settings, p, q, self.remainder) };
+        self.remainder = reply.remainder;
+        accepted(reply.refusal)?;
+        Ok(reply.count)
+    }
+}
+
+/// One tally for the whole card, lent to each call of a sink. Each number stays at its largest.
+#[repr(C)]
+#[derive(Clone, Copy, Debug, Default, PartialEq, Eq)]
+pub struct Tally {
+    /// Frames taken.
+    pub frames: u32,
+    /// Frames that answered BADCHECK.
+    pub bad: u32,
+    /// Bytes handed out.
+    pub bytes: u32,
+}
+
+// The library is lent the tally as three 32-bit numbers, one after the other.
+const _: () = assert!(size_of::<Tally>() == 3 * size_of::<u32>() && align_of::<Tally>() == align_of::<u32>());
+
+/// What an accepted call of a sink answers.
+#[derive(Clone, Copy, Debug, PartialEq, Eq)]
+pub struct Taken {
+    /// What the sink says of the frame.
+    pub standing: Standing,
+    /// How many bytes it handed out, at the start of the output buffer.
+    pub handed: u32,
+}
+
+/// A sink's state.
+#[derive(Clone, Debug, PartialEq, Eq)]
+pub struct Sink {
+    /// The known count, if there is one. One outside the window counts as none.
+    pub count: Option<u32>,
+    /// The remembered word (JC1 × 256 + JC2), if there is one. One with II = DI counts as none.
+    pub word: Option<u32>,
+}
+
+impl Sink {
+    /// A sink that knows nothing.
+    pub fn new() -> Sink {
+        // SAFETY: the function takes nothing and returns plain numbers.
+        Sink::from(unsafe { ffi::odu0_sink_new() })
+    }
+
+    /// Takes a frame: hands out, to the start of `out`, the client bytes at the places of the count known before, leaves the bytes
+    /// after them as they were, follows the control word, and counts the frame in the tally. Refusals: grid, window, frame, space.
+    pub fn call(
+        &mut self,
+        settings: Settings,
+        frame: &[u8],
+        out: &mut [u8],
+        tally: &mut Tally,
+    ) -> Result<Taken, Refusal> {
+        // SAFETY: each pointer is that of a live slice and stands before its length, and `tally` has the layout of odu0_tally (above);
+        // `out` and `tally` are lent for writing, so none of them overlap.
+        let reply = unsafe {
+            ffi::odu0_sink_call(
+                settings,
+                ffi::Sink::from(&*self),
+                frame.as_ptr(),
+                frame.len(),
+                out.as_mut_ptr(),
+                out.len(),
+                tally,
+            )
+        };
+        *self = Sink::from(reply.state);
+        accepted(reply.refusal)?;
+        let standing = match reply.standing {
+            1 => Standing::Read(reply.count),
+            2 => Standing::Tracked(reply.count),
+            3 => Standing::Paired(reply.count),
+            4 => Standing::BadCheck,
+            5 => Standing::Waiting,
+            6 => Standing::Outside,
+            other => panic!("libodu0 answered standing {other}, which odu0.h does not have"),
+        };
+        Ok(Taken { standing, handed: reply.handed })
+    }
+}
+
+impl Default for Sink {
+    fn default() -> Sink {
+        Sink::new()
+    }
+}
+
+impl From<ffi::Sink> for Sink {
+    fn from(state: ffi::Sink) -> Sink {
+        Sink { count: (state.known != 0).then_some(state.count), word: (state.remembered != 0).then_some(state.word) }
+    }
+}
+
+impl From<&Sink> for ffi::Sink {
+    fn from(sink: &Sink) -> ffi::Sink {
+        ffi::Sink {
+            known: sink.count.is_some().into(),
+            count: sink.count.unwrap_or(0),
+            remembered: sink.word.is_some().into(),
+            word: sink.word.unwrap_or(0),
+        }
+    }
+}

@@ -1,0 +1,480 @@
+//! A second implementation of the ODU0 generic mapper, and a small generator of random numbers.
+//!
+//! It is written from the scope paper, in the paper's own order and with no thought of speed: every place is tested by n × C mod S < C, the
+//! check is a long division bit by bit, and the sink is the paper's rules 1 to 3 one after the other. Where the paper is silent it goes by
+//! odu0.h: a multiframe number above 255 is taken modulo 256. Of a remembered word only the 16 bits that a word has are looked at.
+
+mod random;
+
+pub use random::Random;
+
+/// The settings: K payload columns in a row, and the window of counts.
+#[derive(Clone, Copy, Debug, PartialEq, Eq)]
+pub struct Settings {
+    pub k: u32,
+    pub lo: u32,
+    pub hi: u32,
+}
+
+impl Settings {
+    pub const OPU0: Settings = Settings { k: 3808, lo: 14405, hi: 14410 };
+
+    /// S, the number of payload bytes.
+    pub fn payload(self) -> u64 {
+        4 * u64::from(self.k)
+    }
+
+    /// The number of bytes in a frame.
+    pub fn frame(self) -> u64 {
+        self.payload() + 8
+    }
+
+    /// Whether the window holds a count.
+    pub fn holds(self, count: u32) -> bool {
+        self.lo <= count && count <= self.hi
+    }
+
+    fn grid_is_wrong(self) -> bool {
+        self.k == 0 || self.k > 3808
+    }
+
+    fn window_is_wrong(self) -> bool {
+        self.lo > self.hi || u64::from(self.hi) > self.payload()
+    }
+}
+
+/// Whether payload byte n, from 1, carries a client byte.
+pub fn carries(n: u64, count: u64, s: u64) -> bool {
+    n * count % s < count
+}
+
+/// Where the payload bytes 1 to S stand in a frame, from 0.
+fn payload_bytes(k: u32) -> impl Iterator<Item = usize> {
+    let k = k as usize;
+    (0..4).flat_map(move |row| (0..k).map(move |column| row * (k + 2) + 2 + column))
+}
+
+/// The remainder of 16 bits times x^8 by x^8 + x^3 + x^2 + 1.
+pub fn check(word: u32) -> u32 {
+    let divisor = 0b1_0000_1101;
+    let mut rest = (word & 0xFFFF) << 8;
+    for power in (8..24).rev() {
+        if rest >> power & 1 == 1 {
+            rest ^= divisor << (power - 8);
+        }
+    }
+    rest
+}
+
+/// The pattern of a change, C1 to C14.
+pub fn pattern(change: i32) -> u32 {
+    match change {
+        0 => 0b00000000000000,
+        1 => 0b10101010101010,
+        -1 => 0b01010101010101,
+        2 => 0b01100110011001,
+        -2 => 0b10011001100110,
+        _ => panic!("{change} has no pattern"),
+    }
+}
+
+/// A count moved by a change, modulo 16,384.
+fn moved(count: u32, change: i32) -> u32 {
+    (count as i32 + change).rem_euclid(16384) as u32
+}
+
+/// The 16 bits C1 to C14, II, DI which say that after the count "old" comes the count "new".
+pub fn word(old: u32, new: u32) -> u32 {
+    let change = i64::from(new) - i64::from(old);
+    let (bits, ii, di) = match change {
+        0 => (old, 0, 0),
+        1 | 2 => (old ^ pattern(change as i32), 1, 0),
+        -1 | -2 => (old ^ pattern(change as i32), 0, 1),
+        _ => (new, 1, 1),
+    };
+    bits << 2 | ii << 1 | di
+}
+
+fn c_bits(word: u32) -> u32 {
+    word >> 2 & 0x3FFF
+}
+
+fn ii(word: u32) -> u32 {
+    word >> 1 & 1
+}
+
+fn di(word: u32) -> u32 {
+    word & 1
+}
+
+/// The two changes of a word's sign, II ≠ DI.
+fn changes(word: u32) -> [i32; 2] {
+    if ii(word) == 1 {
+        [1, 2]
+    } else {
+        [-1, -2]
+    }
+}
+
+/// Where a word leads that continues a count by a pattern of its sign.
+fn continued(count: u32, word: u32) -> Option<u32> {
+    for change in changes(word) {
+        if c_bits(word) ^ count == pattern(change) {
+            return Some(moved(count, change));
+        }
+    }
+    None
+}
+
+/// The two counts that a remembered word may have announced.
+pub fn possible(word: u32) -> [u32; 2] {
+    changes(word).map(|change| moved(c_bits(word) ^ pattern(change), change))
+}
+
+/// The lowest number that applies, of the numbers that do.
+fn turn_back(numbers: Vec<u32>) -> Result<(), u32> {
+    match numbers.into_iter().min() {
+        Some(number) => Err(number),
+        None => Ok(()),
+    }
+}
+
+/// The numbers whose condition is true.
+fn numbers<const N: usize>(table: [(u32, bool); N]) -> Vec<u32> {
+    table.into_iter().filter(|line| line.1).map(|line| line.0).collect()
+}
+
+/// A source's state.
+#[derive(Clone, Debug, PartialEq, Eq)]
+pub struct Source {
+    pub count: u32,
+    pub number: u32,
+    pub kind: u8,
+}
+
+impl Source {
+    /// Every number by which a new source is turned back.
+    pub fn new_refusals(settings: Settings, first: u32) -> Vec<u32> {
+        numbers([(1, settings.grid_is_wrong()), (2, settings.window_is_wrong()), (5, !settings.holds(first))])
+    }
+
+    pub fn new(settings: Settings, first: u32, kind: u8) -> Result<Source, u32> {
+        turn_back(Source::new_refusals(settings, first))?;
+        Ok(Source { count: first, number: 0, kind })
+    }
+
+    /// Every number by which a call is turned back.
+    pub fn refusals(&self, settings: Settings, next: u32, client: &[u8], frame: &[u8]) -> Vec<u32> {
+        numbers([
+            (1, settings.grid_is_wrong()),
+            (2, settings.window_is_wrong()),
+            (5, !settings.holds(self.count)),
+            (6, !settings.holds(next)),
+            (7, client.len() as u64 != u64::from(self.count)),
+            (8, frame.len() as u64 != settings.frame()),
+        ])
+    }
+
+    pub fn call(&mut self, settings: Settings, next: u32, client: &[u8], frame: &mut [u8]) -> Result<(), u32> {
+        turn_back(self.refusals(settings, next, client, frame))?;
+        frame.fill(0);
+        let row = settings.k as usize + 2;
+        let announced = word(self.count, next);
+        frame[1] = (announced >> 8) as u8;
+        frame[row + 1] = announced as u8;
+        frame[2 * row + 1] = check(announced) as u8;
+        let number = self.number % 256;
+        if number == 0 {
+            frame[3 * row] = self.kind;
+        }
+        let mut client = client.iter();
+        for (n, at) in (1..).zip(payload_bytes(settings.k)) {
+            if carries(n, u64::from(self.count), settings.payload()) {
+                frame[at] = *client.next().expect("there are exactly C places");
+            }
+        }
+        assert!(client.next().is_none(), "there are exactly C places");
+        self.count = next;
+        self.number = (number + 1) % 256;
+        Ok(())
+    }
+}
+
+/// A rate keeper's state.
+#[derive(Clone, Debug, PartialEq, Eq)]
+pub struct Keeper {
+    pub remainder: u32,
+}
+
+impl Keeper {
+    pub fn new() -> Keeper {
+        Keeper { remainder: 0 }
+    }
+
+    /// Every number by which a call is turned back. Nothing is divided by zero: number 3 is below number 4.
+    pub fn refusals(&self, settings: Settings, p: u32, q: u32) -> Vec<u32> {
+        let (whole, most) = (p.checked_div(q), u64::from(settings.hi) * u64::from(q));
+        numbers([
+            (1, settings.grid_is_wrong()),
+            (2, settings.window_is_wrong()),
+            (3, q == 0 || q > 65535),
+            (4, whole.is_some_and(|whole| whole < settings.lo) || u64::from(p) > most),
+            (5, self.remainder >= q),
+        ])
+    }
+
+    pub fn call(&mut self, settings: Settings, p: u32, q: u32) -> Result<u32, u32> {
+        turn_back(self.refusals(settings, p, q))?;
+        let sum = u64::from(self.remainder) + u64::from(p);
+        self.remainder = (sum % u64::from(q)) as u32;
+        Ok((sum / u64::from(q)) as u32)
+    }
+}
+
+impl Default for Keeper {
+    fn default() -> Keeper {
+        Keeper::new()
+    }
+}
+
+/// What a sink says of a frame.
+#[derive(Clone, Copy, Debug, PartialEq, Eq)]
+pub enum Standing {
+    Read(u32),
+    Tracked(u32),
+    Paired(u32),
+    BadCheck,
+    Waiting,
+    Outside,
+}
+
+impl Standing {
+    /// The paper's word.
+    pub fn word(self) -> &'static str {
+        match self {
+            Standing::Read(_) => "READ",
+            Standing::Tracked(_) => "TRACKED",
+            Standing::Paired(_) => "PAIRED",
+            Standing::BadCheck => "BADCHECK",
+            Standing::Waiting => "WAITING",
+            Standing::Outside => "OUTSIDE",
+        }
+    }
+
+    /// The count that it found.
+    pub fn count(self) -> Option<u32> {
+        match self {
+            Standing::Read(count) | Standing::Tracked(count) | Standing::Paired(count) => Some(count),
+            _ => None,
+        }
+    }
+}
+
+/// The card's tally.
+#[derive(Clone, Copy, Debug, Default, PartialEq, Eq)]
+pub struct Tally {
+    pub frames: u32,
+    pub bad: u32,
+    pub bytes: u32,
+}
+
+/// A sink's state: a known count or none, a remembered word or none.
+#[derive(Clone, Debug, Default, PartialEq, Eq)]
+pub struct Sink {
+    pub count: Option<u32>,
+    pub word: Option<u32>,
+}
+
+impl Sink {
+    pub fn new() -> Sink {
+        Sink::default()
+    }
+
+    /// Every number by which a call is turned back.
+    pub fn refusals(&self, settings: Settings, frame: &[u8], out: &[u8]) -> Vec<u32> {
+        numbers([
+            (1, settings.grid_is_wrong()),
+            (2, settings.window_is_wrong()),
+            (8, frame.len() as u64 != settings.frame()),
+            (9, (out.len() as u64) < u64::from(settings.hi)),
+        ])
+    }
+
+    /// The standing, and how many bytes were handed out.
+    pub fn call(
+        &mut self,
+        settings: Settings,
+        frame: &[u8],
+        out: &mut [u8],
+        tally: &mut Tally,
+    ) -> Result<(Standing, u32), u32> {
+        turn_back(self.refusals(settings, frame, out))?;
+
+        // A count outside the window counts as none, and so does a remembered word with II = DI.
+        let known = self.count.filter(|count| settings.holds(*count));
+        let before = self.word.filter(|word| ii(*word) != di(*word));
+
+        // First the client bytes, by the count known before.
+        let mut handed = 0;
+        if let Some(count) = known {
+            for (n, at) in (1..).zip(payload_bytes(settings.k)) {
+                if carries(n, u64::from(count), settings.payload()) {
+                    out[handed] = frame[at];
+                    handed += 1;
+                }
+            }
+        }
+
+        // Then the control word.
+        let row = settings.k as usize + 2;
+        let [jc1, jc2, jc3] = [1, row + 1, 2 * row + 1].map(|at| u32::from(frame[at]));
+        let word = jc1 << 8 | jc2;
+        let mut standing;
+        if check(word) != jc3 {
+            standing = Standing::BadCheck;
+            self.word = None;
+        } else if ii(word) == di(word) {
+            standing = Standing::Read(c_bits(word));
+            self.word = None;
+        } else {
+            let tracked = known.and_then(|count| continued(count, word));
+            let mut paired = None;
+            if let Some(before) = before {
+                for count in possible(before) {
+                    paired = paired.or(continued(count, word));
+                }
+            }
+            standing = match (tracked, paired) {
+                (Some(count), _) => Standing::Tracked(count),
+                (None, Some(count)) => Standing::Paired(count),
+                (None, None) => Standing::Waiting,
+            };
+            self.word = Some(word);
+        }
+        if standing.count().is_some_and(|count| !settings.holds(count)) {
+            standing = Standing::Outside;
+        }
+        self.count = standing.count();
+
+        tally.frames = tally.frames.saturating_add(1);
+        tally.bad = tally.bad.saturating_add((standing == Standing::BadCheck).into());
+        tally.bytes = tally.bytes.saturating_add(handed as u32);
+        Ok((standing, handed as u32))
+    }
+}
+
+#[cfg(test)]
+mod tests {
+    use super::*;
+
+    fn control(old: u32, next: u32) -> [u8; 3] {
+        let word = word(old, next);
+        [(word >> 8) as u8, word as u8, check(word) as u8]
+    }
+
+    fn frame(settings: Settings, control: [u8; 3]) -> Vec<u8> {
+        let mut frame = vec![0; settings.frame() as usize];
+        for (row, byte) in control.into_iter().enumerate() {
+            frame[row * (settings.k as usize + 2) + 1] = byte;
+        }
+        frame
+    }
+
+    fn standing(sink: &mut Sink, settings: Settings, control: [u8; 3]) -> Standing {
+        let mut out = vec![0; settings.hi as usize];
+        sink.call(settings, &frame(settings, control), &mut out, &mut Tally::default()).unwrap().0
+    }
+
+    #[test]
+    fn worked_words() {
+        assert_eq!(control(14407, 14407), [0xE1, 0x1C, 0x6E]);
+        assert_eq!(control(14407, 14408), [0x4B, 0xB6, 0x38]);
+        assert_eq!(control(14407, 14409), [0x87, 0x7A, 0xA7]);
+        assert_eq!(control(14407, 14406), [0xB4, 0x49, 0x45]);
+        assert_eq!(control(14407, 14405), [0x78, 0x85, 0xDA]);
+        assert_eq!(control(14405, 14409), [0xE1, 0x27, 0x6C]);
+    }
+
+    #[test]
+    fn worked_sinks() {
+        let (first, then) = ([0x4B, 0xB6, 0x38], [0x4B, 0x8A, 0x19]);
+        let mut sink = Sink::new();
+        assert_eq!(standing(&mut sink, Settings::OPU0, first), Standing::Waiting);
+        assert_eq!(standing(&mut sink, Settings::OPU0, then), Standing::Paired(14409));
+
+        let (wide, small) = (Settings { k: 3808, lo: 0, hi: 15232 }, Settings { k: 2, lo: 0, hi: 8 });
+        let mut sink = Sink { count: Some(2932), word: None };
+        assert_eq!(standing(&mut sink, wide, first), Standing::Tracked(2934));
+        assert_eq!(standing(&mut sink, wide, then), Standing::Paired(14409));
+
+        assert_eq!(standing(&mut Sink::new(), Settings::OPU0, [0; 3]), Standing::Outside);
+        assert_eq!(standing(&mut Sink::new(), small, [0; 3]), Standing::Read(0));
+        assert_eq!(standing(&mut Sink::new(), small, [0xFF; 3]), Standing::BadCheck);
+    }
+
+    #[test]
+    fn worked_places() {
+        let places = |count| (1..=8).filter(|n| carries(*n, count, 8)).collect::<Vec<_>>();
+        assert_eq!(places(3), [3, 6, 8]);
+        assert_eq!(places(0), []);
+        assert_eq!(places(8), [1, 2, 3, 4, 5, 6, 7, 8]);
+    }
+
+    #[test]
+    fn exactly_c_places_and_the_whole_part_among_the_first_n() {
+        for s in (4..=80).step_by(4) {
+            for count in 0..=s {
+                let mut met = 0;
+                for n in 1..=s {
+                    met += u64::from(carries(n, count, s));
+                    assert_eq!(met, n * count / s);
+                }
+                assert_eq!(met, count);
+            }
+        }
+    }
+
+    #[test]
+    fn worked_rate() {
+        let mut keeper = Keeper::new();
+        let counts = [(); 4].map(|()| keeper.call(Settings::OPU0, 18671875, 1296).unwrap());
+        assert_eq!(counts, [14407, 14407, 14407, 14408]);
+    }
+
+    /// The paper says "the one which this word continues": no word continues both possible counts of another.
+    #[test]
+    fn a_pair_of_words_leads_to_one_count() {
+        let mut both_end_in_11 = 0;
+        for before in 0..=0xFFFF {
+            if ii(before) == di(before) {
+                continue;
+            }
+            let [one, two] = possible(before);
+            assert_ne!(one, two);
+            both_end_in_11 += u32::from(one & 3 == 3 && two & 3 == 3);
+            for sign in [1, 2] {
+                let words = |count: u32| changes(sign).map(|change| (count ^ pattern(change)) << 2 | sign);
+                for word in words(one) {
+                    assert!(continued(one, word).is_some());
+                    assert!(!words(two).contains(&word), "{before:04X} {word:04X}");
+                }
+            }
+        }
+        assert!(both_end_in_11 > 0);
+    }
+
+    /// Four wrong bits may pass the check; one, two or three do not.
+    #[test]
+    fn up_to_three_wrong_bits_fail_the_check() {
+        // The check is a division, so a word's errors pass if and only if they pass on the word 0.
+        let passes = |bits: u32| check(bits >> 8) == bits & 0xFF;
+        let (mut fewest, mut seen) = (24, 0);
+        for bits in 1..1 << 24 {
+            if passes(bits) {
+                fewest = fewest.min(u32::count_ones(bits));
+                seen += 1;
+            }
+        }
+        assert_eq!((fewest, seen), (4, 65535));
+    }
+}

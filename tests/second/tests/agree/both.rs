@@ -1,0 +1,296 @@
+//! Makes each call twice, through the library and through the second implementation, and compares the answer, the state, every byte of
+//! every buffer and the tally.
+//!
+//! A case draws its random numbers from the seed, the test's name and its own number, so it can be run again alone. SEED sets another seed,
+//! CASE runs one case only, RUNS multiplies the number of cases.
+
+use second::{Keeper, Random, Settings, Sink, Source, Standing, Tally};
+use std::fmt;
+use std::io::Write;
+use std::time::Instant;
+
+/// How many calls were compared, and what they answered.
+#[derive(Clone, Default)]
+pub struct Done {
+    /// Accepted source and sink calls with K up to 40.
+    pub small: u64,
+    /// Those with a larger K.
+    pub large: u64,
+    /// Those with the settings of OPU0.
+    pub opu0: u64,
+    /// Accepted keeper calls and new sources.
+    pub others: u64,
+    /// Calls turned back, by their number.
+    pub refused: [u64; 10],
+    /// Sink calls, by what they answered.
+    pub standings: [u64; 6],
+}
+
+/// One case of a test, with what is needed to run it again.
+pub struct Case {
+    pub random: Random,
+    pub number: u64,
+    pub done: Done,
+    test: &'static str,
+    seed: u64,
+    last: Option<Call>,
+}
+
+/// A call as it was made.
+enum Call {
+    NewSource(Settings, u32, u8),
+    Source(Settings, Source, u32, Vec<u8>, Vec<u8>),
+    Keeper(Settings, Keeper, u32, u32),
+    Sink(Settings, Sink, Vec<u8>, Vec<u8>, Tally),
+}
+
+/// Runs a test's cases and says on standard error how many calls were compared.
+pub fn cases(test: &'static str, cases: u64, mut run: impl FnMut(&mut Case)) -> Done {
+    let seed = from_environment("SEED").unwrap_or(1);
+    let numbers = match from_environment("CASE") {
+        Some(only) => only..only + 1,
+        None => 0..cases * from_environment("RUNS").unwrap_or(1),
+    };
+    let began = Instant::now();
+    let mut case = Case { random: Random::new(0), number: 0, done: Done::default(), test, seed, last: None };
+    for number in numbers.clone() {
+        case.number = number;
+        case.random = random_of(seed, test, number);
+        run(&mut case);
+    }
+    let done = case.done.clone();
+    let refused: u64 = done.refused.iter().sum();
+    // Past the test harness, which would swallow it.
+    let _ = writeln!(
+        std::io::stderr(),
+        "{test}: seed {seed}, {} cases; frames on small grids {}, on large ones {}, on OPU0 {}; other calls {}; refused {refused}; {:.1} s",
+        numbers.end - numbers.start,
+        done.small,
+        done.large,
+        done.opu0,
+        done.others,
+        began.elapsed().as_secs_f64()
+    );
+    done
+}
+
+/// Whether all cases are run, so that what they met can be asked for.
+pub fn all_cases() -> bool {
+    from_environment("CASE").is_none()
+}
+
+fn from_environment(name: &str) -> Option<u64> {
+    let value = std::env::var(name).ok()?;
+    Some(value.parse().unwrap_or_else(|_| panic!("{name} is {value}, which is not a number")))
+}
+
+fn random_of(seed: u64, test: &str, number: u64) -> Random {
+    let mut start = Random::new(seed).number();
+    for byte in test.bytes() {
+        start = Random::new(start ^ u64::from(byte)).number();
+    }
+    Random::new(Random::new(start ^ number).number())
+}
+
+impl Drop for Case {
+    /// Where a comparison failed, says which, with all that is needed to run it again.
+    fn drop(&mut self) {
+        if !std::thread::panicking() {
+            return;
+        }
+        let (test, seed, number) = (self.test, self.seed, self.number);
+        eprintln!("{test} failed in case {number} of seed {seed}. To run it again:");
+        eprintln!("  SEED={seed} CASE={number} cargo test -p second --test agree {test}");
+        if let Some(call) = &self.last {
+            eprintln!("The last call was\n{call}");
+        }
+    }
+}
+
+impl Case {
+    pub fn source_new(&mut self, settings: Settings, first: u32, kind: u8) -> Result<Source, u32> {
+        self.last = Some(Call::NewSource(settings, first, kind));
+        let theirs = odu0::Source::new(settings_of(settings), first, kind);
+        let ours = Source::new(settings, first, kind);
+        let theirs = theirs.map(back).map_err(odu0::Refusal::number);
+        assert_eq!(theirs, ours, "a new source: library, second");
+        self.count_other(ours.as_ref().err());
+        ours
+    }
+
+    pub fn source(
+        &mut self,
+        settings: Settings,
+        state: &mut Source,
+        next: u32,
+        client: &[u8],
+        frame: &mut [u8],
+    ) -> Result<(), u32> {
+        self.last = Some(Call::Source(settings, state.clone(), next, client.to_vec(), frame.to_vec()));
+        let mut their_client = Lent::new(self.number, client);
+        let mut their_frame = Lent::new(self.number, frame);
+        let mut their_state = odu0::Source { count: state.count, number: state.number, kind: state.kind };
+        let theirs = their_state
+            .call(settings_of(settings), next, their_client.lent(), their_frame.lent())
+            .map_err(odu0::Refusal::number);
+        let ours = state.call(settings, next, client, frame);
+        assert_eq!(theirs, ours, "the answer: library, second");
+        assert_eq!(back(their_state), *state, "the state: library, second");
+        their_client.must_be("client bytes", client);
+        their_frame.must_be("frame", frame);
+        self.count_frame(settings, ours.err());
+        ours
+    }
+
+    pub fn keeper(&mut self, settings: Settings, state: &mut Keeper, p: u32, q: u32) -> Result<u32, u32> {
+        self.last = Some(Call::Keeper(settings, state.clone(), p, q));
+        let mut their_state = odu0::Keeper { remainder: state.remainder };
+        let theirs = their_state.call(settings_of(settings), p, q).map_err(odu0::Refusal::number);
+        let ours = state.call(settings, p, q);
+        assert_eq!(theirs, ours, "the answer: library, second");
+        assert_eq!(their_state.remainder, state.remainder, "the remainder: library, second");
+        self.count_other(ours.as_ref().err());
+        ours
+    }
+
+    pub fn sink(
+        &mut self,
+        settings: Settings,
+        state: &mut Sink,
+        frame: &[u8],
+        out: &mut [u8],
+        tally: &mut Tally,
+    ) -> Result<(Standing, u32), u32> {
+        self.last = Some(Call::Sink(settings, state.clone(), frame.to_vec(), out.to_vec(), *tally));
+        let mut their_frame = Lent::new(self.number, frame);
+        let mut their_out = Lent::new(self.number, out);
+        let mut their_state = odu0::Sink { count: state.count, word: state.word };
+        let mut their_tally = odu0::Tally { frames: tally.frames, bad: tally.bad, bytes: tally.bytes };
+        let theirs = their_state
+            .call(settings_of(settings), their_frame.lent(), their_out.lent(), &mut their_tally)
+            .map(|taken| (standing_of(taken.standing), taken.handed))
+            .map_err(odu0::Refusal::number);
+        let ours = state.call(settings, frame, out, tally);
+        assert_eq!(theirs, ours, "the answer: library, second");
+        let their_state = Sink { count: their_state.count, word: their_state.word };
+        assert_eq!(their_state, *state, "the state: library, second");
+        let their_tally = Tally { frames: their_tally.frames, bad: their_tally.bad, bytes: their_tally.bytes };
+        assert_eq!(their_tally, *tally, "the tally: library, second");
+        their_frame.must_be("frame", frame);
+        their_out.must_be("output", out);
+        self.count_frame(settings, ours.err());
+        if let Ok((standing, _)) = ours {
+            self.done.standings[index(standing)] += 1;
+        }
+        ours
+    }
+
+    pub fn count_frame(&mut self, settings: Settings, refusal: Option<u32>) {
+        match refusal {
+            Some(number) => self.done.refused[number as usize] += 1,
+            None if settings == Settings::OPU0 => self.done.opu0 += 1,
+            None if settings.k > 40 => self.done.large += 1,
+            None => self.done.small += 1,
+        }
+    }
+
+    fn count_other(&mut self, refusal: Option<&u32>) {
+        match refusal {
+            Some(number) => self.done.refused[*number as usize] += 1,
+            None => self.done.others += 1,
+        }
+    }
+}
+
+pub fn settings_of(settings: Settings) -> odu0::Settings {
+    odu0::Settings { k: settings.k, lo: settings.lo, hi: settings.hi }
+}
+
+fn back(state: odu0::Source) -> Source {
+    Source { count: state.count, number: state.number, kind: state.kind }
+}
+
+fn standing_of(standing: odu0::Standing) -> Standing {
+    match standing {
+        odu0::Standing::Read(count) => Standing::Read(count),
+        odu0::Standing::Tracked(count) => Standing::Tracked(count),
+        odu0::Standing::Paired(count) => Standing::Paired(count),
+        odu0::Standing::BadCheck => Standing::BadCheck,
+        odu0::Standing::Waiting => Standing::Waiting,
+        odu0::Standing::Outside => Standing::Outside,
+    }
+}
+
+fn index(standing: Standing) -> usize {
+    match standing {
+        Standing::Read(_) => 0,
+        Standing::Tracked(_) => 1,
+        Standing::Paired(_) => 2,
+        Standing::BadCheck => 3,
+        Standing::Waiting => 4,
+        Standing::Outside => 5,
+    }
+}
+
+/// A copy of a buffer for the library, with bytes before and behind it that it has to leave alone.
+pub struct Lent {
+    bytes: Vec<u8>,
+    before: usize,
+    length: usize,
+}
+
+const BEHIND: usize = 24;
+
+impl Lent {
+    /// The case's number moves the buffer's address, so that every one of 16 comes up.
+    pub fn new(number: u64, bytes: &[u8]) -> Lent {
+        let before = BEHIND + number as usize % 16;
+        let mut all = vec![0xA5; before + bytes.len() + BEHIND];
+        all[before..before + bytes.len()].copy_from_slice(bytes);
+        Lent { bytes: all, before, length: bytes.len() }
+    }
+
+    pub fn lent(&mut self) -> &mut [u8] {
+        &mut self.bytes[self.before..self.before + self.length]
+    }
+
+    pub fn must_be(&self, name: &str, wanted: &[u8]) {
+        let end = self.before + self.length;
+        for (at, byte) in self.bytes[..self.before].iter().chain(&self.bytes[end..]).enumerate() {
+            assert!(*byte == 0xA5, "the library wrote outside the {name}, at edge byte {at}");
+        }
+        if self.bytes[self.before..end] != *wanted {
+            let at = (0..wanted.len()).find(|at| self.bytes[self.before + at] != wanted[*at]);
+            let at = at.expect("they differ, and have one length");
+            let (theirs, ours) = (self.bytes[self.before + at], wanted[at]);
+            panic!("the {name}, byte {at} from 0: library {theirs:02X}, second {ours:02X}");
+        }
+    }
+}
+
+impl fmt::Display for Call {
+    fn fmt(&self, f: &mut fmt::Formatter<'_>) -> fmt::Result {
+        match self {
+            Call::NewSource(settings, first, kind) => {
+                write!(f, "  a new source; {settings:?}; first {first}, kind {kind}")
+            }
+            Call::Source(settings, state, next, client, frame) => {
+                writeln!(f, "  a source call; {settings:?}; {state:?}; next {next}")?;
+                writeln!(f, "  client, {} bytes: {}", client.len(), hex(client))?;
+                write!(f, "  frame before, {} bytes: {}", frame.len(), hex(frame))
+            }
+            Call::Keeper(settings, state, p, q) => {
+                write!(f, "  a keeper call; {settings:?}; {state:?}; p {p}, q {q}")
+            }
+            Call::Sink(settings, state, frame, out, tally) => {
+                writeln!(f, "  a sink call; {settings:?}; {state:?}; {tally:?}")?;
+                writeln!(f, "  frame, {} bytes: {}", frame.len(), hex(frame))?;
+                write!(f, "  output before, {} bytes: {}", out.len(), hex(out))
+            }
+        }
+    }
+}
+
+fn hex(bytes: &[u8]) -> String {
+    bytes.iter().map(|byte| format!("{byte:02X}")).collect()
+}

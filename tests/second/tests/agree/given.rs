@@ -1,0 +1,212 @@
+//! What the calls are given: random arguments, most of them near what is accepted or expected, and hostile ones.
+
+use second::{check, pattern, possible, word, Random, Settings, Sink, Tally};
+
+/// The widest window.
+pub const WIDE: Settings = Settings { k: 3808, lo: 0, hi: 15232 };
+
+/// Changes that have a pattern.
+const CHANGES: [i64; 5] = [0, 1, -1, 2, -2];
+
+/// Settings that are accepted, on a small grid.
+pub fn small_settings(random: &mut Random) -> Settings {
+    let k = if random.once_in(4) { random.from_to(7, 40) } else { random.from_to(1, 6) };
+    let s = 4 * k;
+    let (one, two) = (random.from_to(0, s), random.from_to(0, s));
+    let (lo, hi) = match random.below(7) {
+        0 => (0, s),
+        1 => (one, one),
+        2 => (0, one),
+        3 => (one, s),
+        4 => random.of(&[(0, 0), (s, s)]),
+        _ => (one.min(two), one.max(two)),
+    };
+    Settings { k, lo, hi }
+}
+
+/// Settings of every kind, most of them accepted.
+pub fn any_settings(random: &mut Random) -> Settings {
+    let mut settings = small_settings(random);
+    if random.once_in(10) {
+        // At 2^30 and above, 4 × K does not fit 32 bits.
+        let odd = random.u32();
+        let grids = [0, 3808, 3809, 3810, 0x3FFF_FFFF, 1 << 30, (1 << 30) + 1, 1 << 31, u32::MAX, odd];
+        settings.k = random.of(&grids);
+    }
+    if random.once_in(10) {
+        let Settings { lo, hi, .. } = settings;
+        let s = settings.k.wrapping_mul(4);
+        let odd = (random.u32(), random.u32());
+        let windows = [
+            (hi.wrapping_add(1), hi),
+            (hi, lo),
+            (lo, s.wrapping_add(1)),
+            (s.wrapping_add(1), s.wrapping_add(1)),
+            (lo, u32::MAX),
+            (u32::MAX, hi),
+            (u32::MAX, u32::MAX),
+            odd,
+        ];
+        (settings.lo, settings.hi) = random.of(&windows);
+    }
+    settings
+}
+
+/// A count that the window holds, where it holds one.
+pub fn count_inside(random: &mut Random, settings: Settings) -> u32 {
+    if settings.lo <= settings.hi {
+        random.from_to(settings.lo, settings.hi)
+    } else {
+        settings.lo
+    }
+}
+
+/// Mostly a count inside the window, else one beside it, one that only equals such a count modulo 16,384 or 65,536, or any.
+pub fn any_count(random: &mut Random, settings: Settings) -> u32 {
+    let inside = count_inside(random, settings);
+    match random.below(24) {
+        0 => settings.lo.wrapping_sub(random.from_to(1, 2)),
+        1 => settings.hi.wrapping_add(random.from_to(1, 2)),
+        2 => inside.wrapping_add(16384 << random.below(18)),
+        3 => random.of(&[0, 16383, 16384, 65535, 65536, 1 << 31, u32::MAX]),
+        4 => random.u32(),
+        _ => inside,
+    }
+}
+
+/// A count near another, mostly inside the window.
+pub fn next_count(random: &mut Random, settings: Settings, count: u32) -> u32 {
+    let next = (i64::from(count) + random.of(&CHANGES)) as u32;
+    if settings.holds(next) && !random.once_in(8) {
+        next
+    } else {
+        count_inside(random, settings)
+    }
+}
+
+/// A word that follows a count by a change, or by another count.
+pub fn word_after(random: &mut Random, settings: Settings, count: u32) -> u32 {
+    let count = count % 16384;
+    let next = match random.below(8) {
+        0 => count_inside(random, settings) % 16384,
+        _ => (i64::from(count) + random.of(&CHANGES)).rem_euclid(16384) as u32,
+    };
+    word(count, next)
+}
+
+/// A sink's state of any kind: counts outside the window, words with II = DI, words above 16 bits.
+pub fn any_sink(random: &mut Random, settings: Settings) -> Sink {
+    let count = any_count(random, settings);
+    let inside = count_inside(random, settings);
+    let word = match random.below(8) {
+        0 => random.u32(),
+        1 => random.u32() & 0xFFFF,
+        2 => word_after(random, settings, inside) | random.u32() << 16,
+        3 => word(0, inside % 16384),
+        _ => word_after(random, settings, inside),
+    };
+    Sink { count: (!random.once_in(4)).then_some(count), word: (!random.once_in(3)).then_some(word) }
+}
+
+pub fn any_tally(random: &mut Random) -> Tally {
+    let mut number = || match random.below(4) {
+        0 => 0,
+        1 => u32::MAX - random.from_to(0, 12),
+        2 => u32::MAX,
+        _ => random.u32(),
+    };
+    Tally { frames: number(), bad: number(), bytes: number() }
+}
+
+/// Three control bytes that a sink in this state may well follow, or not.
+pub fn any_control(random: &mut Random, settings: Settings, state: &Sink) -> [u8; 3] {
+    let kind = random.below(16);
+    let old = match (kind, state) {
+        // A count which the remembered word may have announced.
+        (0..=4, Sink { word: Some(before), .. }) if before & 1 != before >> 1 & 1 => random.of(&possible(*before)),
+        (5..=9, Sink { count: Some(count), .. }) => *count,
+        _ => count_inside(random, settings),
+    };
+    let word = match kind {
+        10 => random.u32() & 0xFFFF,
+        11 => return random.of(&[[0x00; 3], [0xFF; 3], [0x4B, 0xB6, 0x38], [0x4B, 0x8A, 0x19]]),
+        12 => return random.bytes(3).try_into().unwrap(),
+        _ => word_after(random, settings, old),
+    };
+    let mut control = [(word >> 8) as u8, word as u8, check(word) as u8];
+    if kind == 13 {
+        let times = random.from_to(1, 5);
+        flip(random, &mut control, times);
+    }
+    control
+}
+
+/// Turns so many bits over; one may be turned back again.
+pub fn flip(random: &mut Random, bytes: &mut [u8], times: u32) {
+    for _ in 0..times {
+        let at = random.below(bytes.len() as u64) as usize;
+        bytes[at] ^= 1 << random.below(8);
+    }
+}
+
+/// Where JC1, JC2 and JC3 stand.
+pub fn control_bytes(settings: Settings) -> [usize; 3] {
+    let row = settings.k as usize + 2;
+    [1, row + 1, 2 * row + 1]
+}
+
+/// Writes control bytes, as far as the frame has them.
+pub fn put_control(settings: Settings, frame: &mut [u8], control: [u8; 3]) {
+    if settings.k < 5000 {
+        for (at, byte) in control_bytes(settings).into_iter().zip(control) {
+            if let Some(place) = frame.get_mut(at) {
+                *place = byte;
+            }
+        }
+    }
+}
+
+/// The right length, or what 32 bits would make of it, or one near it.
+pub fn any_length(random: &mut Random, right: u64) -> usize {
+    let right = [right, right % (1 << 32), 8].into_iter().find(|length| *length <= 16000).unwrap();
+    let odd = random.below(64);
+    let length = match random.below(40) {
+        0 => right.saturating_sub(1),
+        1 => right + 1,
+        2 => right.saturating_sub(random.below(9)),
+        3 => right + random.below(9),
+        4 => random.of(&[0, 1, 7, 8, odd]),
+        _ => right,
+    };
+    length as usize
+}
+
+/// A word's C bits exclusive-or any of the four patterns: the counts that it continues, and those that it would with the other sign.
+pub fn near_misses(word: u32) -> [u32; 4] {
+    [1, -1, 2, -2].map(|change| word >> 2 & 0x3FFF ^ pattern(change))
+}
+
+/// Settings on a grid so large that the window can hold a count and others that a pattern leads to from it.
+pub fn large_settings(random: &mut Random) -> Settings {
+    let k = if random.once_in(2) { 3808 } else { random.from_to(1400, 3807) };
+    let (one, two) = (random.from_to(0, 4 * k), random.from_to(0, 4 * k));
+    match random.below(3) {
+        0 => Settings { k, lo: one.min(two), hi: one.max(two) },
+        _ => Settings { k, lo: 0, hi: 4 * k },
+    }
+}
+
+/// A false count which a word may seem to continue, and a false word before it.
+pub fn hostile_sink(random: &mut Random, settings: Settings, word: u32) -> Sink {
+    let mut near_miss = || match random.below(8) {
+        0 => count_inside(random, settings),
+        _ => random.of(&near_misses(word)),
+    };
+    let (count, announced) = (near_miss(), near_miss());
+    let change = random.of(&[1, -1, 2, -2]);
+    let before = (i64::from(announced) - change).rem_euclid(16384) as u32;
+    Sink {
+        count: random.once_in(2).then_some(count),
+        word: (!random.once_in(4)).then_some(second::word(before, announced)),
+    }
+}

@@ -1,0 +1,134 @@
+//! Each refusal alone, and each with others: the lowest number is the answer.
+
+use crate::both::{all_cases, cases};
+use crate::given::{any_sink, any_tally};
+use second::{Keeper, Settings, Source};
+use std::collections::BTreeSet;
+
+/// Settings that each of grid and window applies to or not, in many ways.
+fn settings_for_refusals() -> Vec<Settings> {
+    let mut all = vec![Settings::OPU0];
+    for k in [0, 1, 2, 3809, 1 << 30, u32::MAX] {
+        let s = 4u32.wrapping_mul(k);
+        let more = s.wrapping_add(1);
+        for (lo, hi) in [(0, s), (s, s), (0, 0), (1, 3), (1, 0), (0, more), (more, s), (more, more), (0, u32::MAX)] {
+            all.push(Settings { k, lo, hi });
+        }
+    }
+    all
+}
+
+/// Lengths around a right one; some short ones where that one is too long to lend.
+fn lengths(right: u64) -> Vec<usize> {
+    let right = if right > 16000 { 8 } else { right as usize };
+    let all = [right, right.saturating_sub(1), right + 1, 0, right + 256];
+    BTreeSet::from(all).into_iter().collect()
+}
+
+/// Counts around a window.
+fn counts(settings: Settings) -> [u32; 5] {
+    [settings.lo, settings.hi, settings.lo.wrapping_sub(1), settings.hi.wrapping_add(1), u32::MAX]
+}
+
+/// Each number of a call was met alone, each two of them together, and none at all.
+fn all_met(numbers: &[u32], met: &BTreeSet<Vec<u32>>) {
+    if !all_cases() {
+        return;
+    }
+    assert!(met.contains(&vec![]));
+    for (at, one) in numbers.iter().enumerate() {
+        assert!(met.contains(&vec![*one]), "{one} was not met alone");
+        for two in &numbers[at + 1..] {
+            assert!(met.contains(&vec![*one, *two]), "{one} and {two} were not met together");
+        }
+    }
+}
+
+/// The answer is the lowest number of those that apply.
+fn lowest<T>(applying: &[u32], answer: &Result<T, u32>) {
+    assert_eq!(answer.as_ref().err(), applying.iter().min());
+}
+
+#[test]
+fn refusals_of_the_sink() {
+    let mut met = BTreeSet::new();
+    cases("refusals_of_the_sink", 1, |case| {
+        for settings in settings_for_refusals() {
+            for frame in lengths(settings.frame()) {
+                for out in lengths(u64::from(settings.hi)) {
+                    let state = any_sink(&mut case.random, settings);
+                    let (frame, out) = (case.random.bytes(frame), case.random.bytes(out));
+                    let tally = any_tally(&mut case.random);
+                    let (mut new_state, mut new_out, mut new_tally) = (state.clone(), out.clone(), tally);
+                    let applying = state.refusals(settings, &frame, &out);
+                    let answer = case.sink(settings, &mut new_state, &frame, &mut new_out, &mut new_tally);
+                    lowest(&applying, &answer);
+                    if answer.is_err() {
+                        assert!((new_state, new_out, new_tally) == (state, out, tally));
+                    }
+                    met.insert(applying);
+                }
+            }
+        }
+    });
+    all_met(&[1, 2, 8, 9], &met);
+}
+
+#[test]
+fn refusals_of_the_source() {
+    let mut met = BTreeSet::new();
+    let mut met_new = BTreeSet::new();
+    cases("refusals_of_the_source", 1, |case| {
+        for settings in settings_for_refusals() {
+            for count in counts(settings) {
+                let applying = Source::new_refusals(settings, count);
+                lowest(&applying, &case.source_new(settings, count, 7));
+                met_new.insert(applying);
+                for next in counts(settings) {
+                    for client in lengths(u64::from(count)) {
+                        for frame in lengths(settings.frame()) {
+                            let state = Source { count, number: case.random.u32(), kind: 7 };
+                            let (client, frame) = (vec![0x11; client], vec![0x22; frame]);
+                            let (mut new_state, mut new_frame) = (state.clone(), frame.clone());
+                            let applying = state.refusals(settings, next, &client, &frame);
+                            let answer = case.source(settings, &mut new_state, next, &client, &mut new_frame);
+                            lowest(&applying, &answer);
+                            if answer.is_err() {
+                                assert!((new_state, new_frame) == (state, frame));
+                            }
+                            met.insert(applying);
+                        }
+                    }
+                }
+            }
+        }
+    });
+    all_met(&[1, 2, 5, 6, 7, 8], &met);
+    all_met(&[1, 2, 5], &met_new);
+}
+
+#[test]
+fn refusals_of_the_keeper() {
+    let mut met = BTreeSet::new();
+    cases("refusals_of_the_keeper", 1, |case| {
+        for settings in settings_for_refusals() {
+            for q in [0, 1, 2, 1296, 65535, 65536, 65537, u32::MAX] {
+                let (least, most) = (settings.lo.wrapping_mul(q), settings.hi.wrapping_mul(q));
+                for p in [0, least, least.wrapping_sub(1), most, most.wrapping_add(1), u32::MAX] {
+                    for remainder in [0, q / 2, q.wrapping_sub(1), q, q.wrapping_add(1), u32::MAX] {
+                        let state = Keeper { remainder };
+                        let mut new_state = state.clone();
+                        let applying = state.refusals(settings, p, q);
+                        let answer = case.keeper(settings, &mut new_state, p, q);
+                        lowest(&applying, &answer);
+                        if answer.is_err() {
+                            assert_eq!(new_state, state);
+                        }
+                        met.insert(applying);
+                    }
+                }
+            }
+        }
+    });
+    all_met(&[1, 2, 3, 4, 5], &met);
+}

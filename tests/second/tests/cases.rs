@@ -1,0 +1,184 @@
+//! The worked frames of the scope paper, run against the library: the starred ones, which are proved as well, and the others.
+
+use odu0::{Keeper, Refusal, Settings, Sink, Source, Standing, Taken, Tally};
+
+const OPU0: Settings = Settings::OPU0;
+const WIDE: Settings = Settings { k: 3808, lo: 0, hi: 15232 };
+const EIGHT: Settings = Settings { k: 2, lo: 0, hi: 8 };
+
+/// Where JC1, JC2 and JC3 stand.
+fn control_bytes(settings: Settings) -> [usize; 3] {
+    let row = settings.k as usize + 2;
+    [1, row + 1, 2 * row + 1]
+}
+
+/// The control bytes that a source at the count "old" writes for the next count.
+fn announced(old: u32, next: u32) -> [u8; 3] {
+    let mut source = Source { count: old, number: 0, kind: 0 };
+    let mut frame = vec![0xEE; 15240];
+    source.call(OPU0, next, &vec![0x55; old as usize], &mut frame).unwrap();
+    assert_eq!(source, Source { count: next, number: 1, kind: 0 });
+    control_bytes(OPU0).map(|at| frame[at])
+}
+
+/// What a sink says of a frame with these control bytes.
+fn said(sink: &mut Sink, settings: Settings, control: [u8; 3]) -> Standing {
+    let mut frame = vec![0; 4 * settings.k as usize + 8];
+    for (at, byte) in control_bytes(settings).into_iter().zip(control) {
+        frame[at] = byte;
+    }
+    let mut out = vec![0; settings.hi as usize];
+    sink.call(settings, &frame, &mut out, &mut Tally::default()).unwrap().standing
+}
+
+#[test]
+fn words_of_a_source() {
+    assert_eq!(announced(14407, 14407), [0xE1, 0x1C, 0x6E]);
+    assert_eq!(announced(14407, 14408), [0x4B, 0xB6, 0x38]);
+    assert_eq!(announced(14407, 14409), [0x87, 0x7A, 0xA7]);
+    assert_eq!(announced(14407, 14406), [0xB4, 0x49, 0x45]);
+    assert_eq!(announced(14407, 14405), [0x78, 0x85, 0xDA]);
+    assert_eq!(announced(14405, 14409), [0xE1, 0x27, 0x6C]);
+}
+
+#[test]
+fn a_new_sink_pairs_two_words() {
+    let mut sink = Sink::new();
+    assert_eq!(sink, Sink { count: None, word: None });
+    assert_eq!(said(&mut sink, OPU0, [0x4B, 0xB6, 0x38]), Standing::Waiting);
+    assert_eq!(said(&mut sink, OPU0, [0x4B, 0x8A, 0x19]), Standing::Paired(14409));
+    assert_eq!(sink, Sink { count: Some(14409), word: Some(0x4B8A) });
+}
+
+#[test]
+fn a_false_count_is_left_by_a_pair() {
+    let mut sink = Sink { count: Some(2932), word: None };
+    assert_eq!(said(&mut sink, WIDE, [0x4B, 0xB6, 0x38]), Standing::Tracked(2934));
+    assert_eq!(said(&mut sink, WIDE, [0x4B, 0x8A, 0x19]), Standing::Paired(14409));
+}
+
+#[test]
+fn zeros_pass_the_check_and_ones_do_not() {
+    assert_eq!(said(&mut Sink::new(), OPU0, [0x00; 3]), Standing::Outside);
+    assert_eq!(said(&mut Sink::new(), EIGHT, [0x00; 3]), Standing::Read(0));
+    for settings in [OPU0, WIDE, EIGHT] {
+        let mut sink = Sink { count: Some(settings.lo), word: Some(0x4BB6) };
+        assert_eq!(said(&mut sink, settings, [0xFF; 3]), Standing::BadCheck);
+        assert_eq!(sink, Sink::new());
+    }
+}
+
+/// The places of a count among eight payload bytes, by what a source writes there and by what a sink takes from there.
+#[test]
+fn places_of_eight() {
+    for (count, places) in [(3, &[3, 6, 8][..]), (0, &[]), (8, &[1, 2, 3, 4, 5, 6, 7, 8])] {
+        let client: Vec<u8> = (0xC1..).take(count as usize).collect();
+        let mut frame = [0xEE; 16];
+        let mut source = Source::new(EIGHT, count, 0x07).unwrap();
+        source.call(EIGHT, count, &client, &mut frame).unwrap();
+        // Payload byte n, from 1, is in row (n - 1) / 2, behind the row's first two bytes.
+        let payload: Vec<u8> = (1..=8).map(|n| frame[(n - 1) / 2 * 4 + 2 + (n - 1) % 2]).collect();
+        let mut wanted = [0; 8];
+        for (place, byte) in places.iter().zip(&client) {
+            wanted[usize::from(*place) - 1] = *byte;
+        }
+        assert_eq!(payload, wanted);
+        assert_eq!((frame[0], frame[4], frame[8], frame[12], frame[13]), (0, 0, 0, 0x07, 0));
+
+        let numbered = [0, 0, 1, 2, 0, 0, 3, 4, 0, 0, 5, 6, 0, 0, 7, 8];
+        let (mut sink, mut tally) = (Sink { count: Some(count), word: None }, Tally::default());
+        let mut out = [0xEE; 9];
+        let taken = sink.call(EIGHT, &numbered, &mut out, &mut tally);
+        assert_eq!(taken, Ok(Taken { standing: Standing::Read(0), handed: count }));
+        assert_eq!(out[..places.len()], *places);
+        assert!(out[places.len()..].iter().all(|byte| *byte == 0xEE));
+        assert_eq!(tally, Tally { frames: 1, bad: 0, bytes: count });
+    }
+}
+
+#[test]
+fn rate_of_1000base_x() {
+    let mut keeper = Keeper::new(1296);
+    assert_eq!(keeper.remainder, 0);
+    let counts = [(); 4].map(|()| keeper.call(OPU0, 18671875, 1296));
+    assert_eq!(counts, [Ok(14407), Ok(14407), Ok(14407), Ok(14408)]);
+}
+
+#[test]
+fn the_largest_grid() {
+    let (last, above) = (Settings { k: 3808, ..OPU0 }, Settings { k: 3809, ..OPU0 });
+    let client = vec![0; 14405];
+    // The frames have the right length for either grid.
+    for (settings, refusal) in [(last, None), (above, Some(Refusal::Grid))] {
+        let mut frame = vec![0; 4 * settings.k as usize + 8];
+        let mut out = vec![0; 14410];
+        let mut source = Source { count: 14405, number: 0, kind: 0 };
+        assert_eq!(Source::new(settings, 14405, 0).err(), refusal);
+        assert_eq!(source.call(settings, 14405, &client, &mut frame).err(), refusal);
+        assert_eq!(Keeper::new(1296).call(settings, 18671875, 1296).err(), refusal);
+        assert_eq!(Sink::new().call(settings, &frame, &mut out, &mut Tally::default()).err(), refusal);
+    }
+}
+
+#[test]
+fn the_smallest_output_buffer() {
+    for settings in [OPU0, WIDE, EIGHT] {
+        let frame = vec![0; 4 * settings.k as usize + 8];
+        let (mut out, mut tally) = (vec![0; settings.hi as usize], Tally::default());
+        let mut call = |out: &mut [u8]| Sink::new().call(settings, &frame, out, &mut tally);
+        assert!(call(&mut out).is_ok());
+        assert_eq!(call(&mut out[1..]).err(), Some(Refusal::Space));
+        assert_eq!(tally.frames, 1);
+    }
+}
+
+#[test]
+fn a_frame_one_byte_short() {
+    let (mut frame, mut out, mut tally) = (vec![0xEE; 15239], vec![0xEE; 14410], Tally::default());
+    let refusal = Sink::new().call(OPU0, &frame, &mut out, &mut tally).unwrap_err();
+    assert_eq!((refusal, refusal.number(), refusal.word()), (Refusal::Frame, 8, "frame"));
+    let mut source = Source::new(OPU0, 14407, 0x07).unwrap();
+    let refusal = source.call(OPU0, 14407, &[0; 14407], &mut frame).unwrap_err();
+    assert_eq!(refusal.number(), 8);
+    assert_eq!(source, Source { count: 14407, number: 0, kind: 0x07 });
+    assert!(frame.iter().chain(&out).all(|byte| *byte == 0xEE));
+    assert_eq!(tally, Tally::default());
+}
+
+/// The frames of the program sinkshow.
+#[test]
+fn frames_of_sinkshow() {
+    let first = [0x00, 0xAA, 0x00, 0x00, 0x00, 0xA6, 0x11, 0x00, 0x00, 0x0A, 0x00, 0x22, 0x07, 0x00, 0x00, 0x33];
+    let second = [0x00, 0x00, 0x00, 0x44, 0x00, 0x10, 0x00, 0x55, 0x00, 0xD0, 0x00, 0x66, 0x00, 0x00, 0x00, 0x77];
+    let (mut sink, mut tally, mut out) = (Sink::new(), Tally::default(), [0; 8]);
+    let mut call = |frame: &[u8]| sink.call(EIGHT, frame, &mut out, &mut tally);
+    assert_eq!(call(&first), Ok(Taken { standing: Standing::Waiting, handed: 0 }));
+    assert_eq!(call(&second), Ok(Taken { standing: Standing::Read(4), handed: 0 }));
+    assert_eq!(call(&second), Ok(Taken { standing: Standing::Read(4), handed: 4 }));
+    assert_eq!(out, [0x44, 0x55, 0x66, 0x77, 0, 0, 0, 0]);
+    assert_eq!(tally, Tally { frames: 3, bad: 0, bytes: 4 });
+
+    // A source writes them: the first with the count 3 and the payload type 07, then 4 and 4.
+    let (mut source, mut frame) = (Source::new(EIGHT, 3, 0x07).unwrap(), [0xEE; 16]);
+    source.call(EIGHT, 4, &[0x11, 0x22, 0x33], &mut frame).unwrap();
+    assert_eq!(frame, first);
+    for _ in 0..2 {
+        source.call(EIGHT, 4, &[0x44, 0x55, 0x66, 0x77], &mut frame).unwrap();
+        assert_eq!(frame, second);
+    }
+}
+
+/// The paper's words for the refusals and the standings.
+#[test]
+fn words_and_numbers() {
+    let words = ["grid", "window", "divisor", "rate", "state", "count", "client", "frame", "space"];
+    for ((refusal, word), number) in Refusal::ALL.into_iter().zip(words).zip(1..) {
+        assert_eq!((refusal.number(), refusal.word()), (number, word));
+    }
+    let standings = [Standing::Read(1), Standing::Tracked(2), Standing::Paired(3)];
+    assert_eq!(standings.map(Standing::name), ["READ", "TRACKED", "PAIRED"]);
+    assert_eq!(standings.map(Standing::count), [Some(1), Some(2), Some(3)]);
+    let standings = [Standing::BadCheck, Standing::Waiting, Standing::Outside];
+    assert_eq!(standings.map(Standing::name), ["BADCHECK", "WAITING", "OUTSIDE"]);
+    assert_eq!(standings.map(Standing::count), [None; 3]);
+}

@@ -1,0 +1,151 @@
+//! The program sinkshow on many inputs, against the second implementation's lines. `rt check` or `rt ci` leaves it in target/bin.
+
+use second::{Random, Settings, Sink, Tally};
+use std::io::Write;
+use std::process::{Command, Stdio};
+use std::thread;
+use std::time::Duration;
+
+const PROGRAM: &str = concat!(env!("CARGO_MANIFEST_DIR"), "/../../target/bin/sinkshow");
+const SETTINGS: Settings = Settings { k: 2, lo: 0, hi: 8 };
+
+const FIRST: [u8; 16] = [0, 0xAA, 0, 0, 0, 0xA6, 0x11, 0, 0, 0x0A, 0, 0x22, 0x07, 0, 0, 0x33];
+const THEN: [u8; 16] = [0, 0, 0, 0x44, 0, 0x10, 0, 0x55, 0, 0xD0, 0, 0x66, 0, 0, 0, 0x77];
+
+/// What the program writes when it is fed these pieces, with a pause after each where one is asked for.
+fn shown(pieces: Vec<Vec<u8>>, pause: Option<Duration>) -> String {
+    let mut program = Command::new(PROGRAM)
+        .stdin(Stdio::piped())
+        .stdout(Stdio::piped())
+        .stderr(Stdio::piped())
+        .spawn()
+        .unwrap_or_else(|error| panic!("{PROGRAM}: {error}. Run `rt check` in the repository first."));
+    let mut input = program.stdin.take().unwrap();
+    // A thread of its own feeds the program, so that neither waits for the other.
+    let feeder = thread::spawn(move || {
+        for piece in pieces {
+            input.write_all(&piece).expect("the program reads all its input");
+            if let Some(pause) = pause {
+                thread::sleep(pause);
+            }
+        }
+    });
+    let output = program.wait_with_output().unwrap();
+    feeder.join().unwrap();
+    assert!(output.status.success(), "{}", output.status);
+    assert!(output.stderr.is_empty(), "{}", String::from_utf8_lossy(&output.stderr));
+    String::from_utf8(output.stdout).unwrap()
+}
+
+/// The same by the second implementation.
+fn lines(input: &[u8]) -> String {
+    let (mut sink, mut tally, mut out) = (Sink::new(), Tally::default(), [0; 8]);
+    let mut lines = String::new();
+    let frames = input.chunks_exact(16);
+    let rest = frames.remainder().len();
+    for (number, frame) in (1..).zip(frames) {
+        let (standing, handed) = sink.call(SETTINGS, frame, &mut out, &mut tally).unwrap();
+        let count = standing.count().map_or("-".to_string(), |count| count.to_string());
+        lines += &format!("{number} {handed} {} {count}\n", standing.word());
+    }
+    if rest > 0 {
+        lines += &format!("LEFT {rest}\n");
+    }
+    lines
+}
+
+/// Frames that a source writes, with some bits turned over.
+fn written(random: &mut Random, frames: usize) -> Vec<u8> {
+    let mut source = second::Source::new(SETTINGS, random.from_to(0, 8), 0x07).unwrap();
+    let mut all = Vec::new();
+    for _ in 0..frames {
+        let next = (source.count + random.from_to(0, 4)).saturating_sub(2).min(8);
+        let client = random.bytes(source.count as usize);
+        let mut frame = [0; 16];
+        source.call(SETTINGS, next, &client, &mut frame).unwrap();
+        if random.once_in(8) {
+            frame[random.below(16) as usize] ^= 1 << random.below(8);
+        }
+        if !random.once_in(16) {
+            all.extend(frame);
+        }
+    }
+    all
+}
+
+/// Cuts an input into pieces of 1 to so many bytes.
+fn pieces(random: &mut Random, input: &[u8], most: u64) -> Vec<Vec<u8>> {
+    let (mut rest, mut pieces) = (input, Vec::new());
+    while !rest.is_empty() {
+        let length = (1 + random.below(most) as usize).min(rest.len());
+        pieces.push(rest[..length].to_vec());
+        rest = &rest[length..];
+    }
+    pieces
+}
+
+#[test]
+fn the_frames_of_the_paper() {
+    let wanted = "1 0 WAITING -\n2 0 READ 4\n3 4 READ 4\n";
+    let input = [FIRST, THEN, THEN].concat();
+    assert_eq!(lines(&input), wanted);
+    assert_eq!(shown(vec![input.clone()], None), wanted);
+    // Byte by byte.
+    let bytes = input.iter().map(|byte| vec![*byte]).collect();
+    assert_eq!(shown(bytes, Some(Duration::from_millis(1))), wanted);
+}
+
+#[test]
+fn nothing_and_rests() {
+    assert_eq!(shown(vec![], None), "");
+    for rest in 1..=15 {
+        assert_eq!(shown(vec![vec![0; rest]], None), format!("LEFT {rest}\n"));
+        let input = [&FIRST[..], &THEN, &THEN, &FIRST[..rest]].concat();
+        let wanted = format!("1 0 WAITING -\n2 0 READ 4\n3 4 READ 4\nLEFT {rest}\n");
+        assert_eq!(shown(vec![input], None), wanted);
+    }
+}
+
+#[test]
+fn random_input() {
+    let seed = std::env::var("SEED").map_or(1, |seed| seed.parse().expect("SEED is a number"));
+    let mut random = Random::new(seed);
+    for case in 0..60 {
+        let frames = random.from_to(0, 300) as usize;
+        let mut input = match case % 3 {
+            0 => random.bytes(16 * frames),
+            _ => written(&mut random, frames),
+        };
+        let rest = random.below(16) as usize;
+        input.extend(random.bytes(rest));
+        let wanted = lines(&input);
+        assert_eq!(shown(vec![input.clone()], None), wanted, "seed {seed}, case {case}: {input:02X?}");
+        let most = random.of(&[3, 16, 17, 40, 5000]);
+        let pieces = pieces(&mut random, &input, most);
+        assert_eq!(shown(pieces, None), wanted, "seed {seed}, case {case}, in pieces: {input:02X?}");
+    }
+}
+
+/// Frame numbers of many digits, and more input than a pipe holds.
+#[test]
+fn a_long_input() {
+    let mut random = Random::new(5);
+    let mut input = written(&mut random, 120_000);
+    input.extend([0; 7]);
+    let (shown, wanted) = (shown(vec![input.clone()], None), lines(&input));
+    assert!(wanted.lines().count() > 100_000);
+    if let Some((line, wanted)) = shown.lines().zip(wanted.lines()).find(|(line, wanted)| line != wanted) {
+        panic!("the program: {line}, second: {wanted}");
+    }
+    assert_eq!(shown.len(), wanted.len());
+}
+
+/// Small pieces with pauses between them, so that the program reads less than a frame at a time.
+#[test]
+fn slow_input() {
+    let mut random = Random::new(6);
+    let mut input = written(&mut random, 20);
+    input.extend([0xFF; 11]);
+    let pieces = pieces(&mut random, &input, 9);
+    assert_eq!(shown(pieces, Some(Duration::from_millis(2))), lines(&input));
+}
