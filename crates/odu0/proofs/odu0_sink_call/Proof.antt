@@ -25,7 +25,6 @@ sink-told s given x z frame out r after e p =
     ∙ ap (sinkReplyBy given (sinkAnswer s x frame out) (length (sinkHanded s x frame out))) (p .state)
     ∙ ap (λ (y : SinkState). sinkReply s given y frame out) e
 
-
 array-read-t17 : tie.Need-array-read-t17
 array-read-t17 c = search needs
 
@@ -48,7 +47,7 @@ same-length : tie.Need-same-length
 same-length c = search needs
 
 returns : tie.Need-returns
-returns c = 
+returns c =
     let g = c .before .before .before .before .before .before .before .before .before .before .before .before .args in
     let s = g .settings in
     let frame = g .frame .now in

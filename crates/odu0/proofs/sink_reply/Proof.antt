@@ -3,7 +3,6 @@ use borrow.Author.Needs.{needs}
 use Rattle.odu0.proofs.sink_reply.Statement.{statement}
 use Rattle.odu0.proofs.sink_reply.Tie as tie
 
-
 found-of-requires : tie.Need-found-of-requires
 found-of-requires c κs = search needs
 
@@ -23,7 +22,7 @@ state-after-requires : tie.Need-state-after-requires
 state-after-requires c κs = search needs
 
 returns : tie.Need-returns
-returns c = 
+returns c =
     let found = c .before .before .before .before .before .found-of .ensures in
     simp (c .state-after .ensures, c .before .count-number .ensures, c .before .before .count-flag .ensures, c .before .before .before .standing-of .ensures, c .before .before .before .before .refusal-of .ensures, found)
 

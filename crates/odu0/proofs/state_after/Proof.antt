@@ -7,7 +7,6 @@ use Rattle.odu0.specs.Numbers.{stateReply}
 use Rattle.odu0.proofs.state_after.Statement.{statement}
 use Rattle.odu0.proofs.state_after.Tie as tie
 
-
 enum-told : tie.Need-enum-told
 enum-told c = search needs
 
@@ -21,7 +20,7 @@ state-numbers-requires : tie.Need-state-numbers-requires
 state-numbers-requires c κs = search needs
 
 returns-2 : tie.Need-returns-2
-returns-2 c = 
+returns-2 c =
     let g = c .before .before .before .args in
     c .state-numbers .ensures ∙ ap (λ (a : SinkAnswer). stateReply (g .given) (told a) (g .state)) (sym (c .before .enum-told .given .1))
 
