@@ -1,27 +1,19 @@
 -- What the parts of the program promise. Assumes nothing.
 use mathlib.Core.Path.{_≡_}
 use mathlib.Core.List.{List, _++_}
-use Prim.Native.Nat.{ℕ, _+_, _<_}
+use Prim.Native.Nat.{ℕ, _+_}
 use lib.ListN.{length, take}
 use Rattle.io.specs.Counts.{Counts}
 use Rattle.settings.specs.declared.Settings.{Settings}
 use Rattle.stuffing.specs.Frame.{controlOf}
 use Rattle.sink.specs.declared.SinkState.{SinkState}
 use Rattle.sink.specs.Sink.{handed, standingAfter, stateAfter}
-use Rattle.sinkshow.specs.declared.Got.{Got}
-use Rattle.sinkshow.specs.declared.Got.the-variants.{Whole, Rest, Failed}
 use Rattle.sinkshow.specs.declared.Shown.{Shown}
 use Rattle.sinkshow.specs.Lines.{frameLine}
 
 -- "K = 2, window 0 to 8"
 abbrev pub small : Settings
 small = record { k = 2; lo = 0; hi = 8 }
-
--- a rest is shorter than what was to be filled
-abbrev pub Gathers : ℕ → Got → Type 0
-Gathers size Whole = Unit
-Gathers size (Rest n) = n < size
-Gathers size Failed = Unit
 
 -- Text put behind the first bytes of a line, with the length then.
 pub record Puts (line : List ℕ) (at : ℕ) (text : List ℕ) (r : ℕ) (after : List ℕ) : Type 0 where

@@ -7,19 +7,13 @@ use libc::STDOUT_FILENO;
 use settings::Settings;
 use sink::SinkAnswer;
 use sink::SinkState;
+use stream::Got;
 ghost use mathlib.Core.Path.{_≡_};
 ghost use Prim.Native.Nat.{_+_, _≤_};
 ghost use lib.ListN.{length};
 ghost use Rattle.jc.specs.Standing.{said};
 ghost use Rattle.sinkshow.specs.Lines.{decimal, countText, numbersText, standingText, restLine};
-ghost use Rattle.sinkshow.specs.Show.{Gathers, Puts, Shows};
-
-// What reading a frame came to: all of it, so many bytes before the input ended, or an error.
-enum Got {
-    Whole,
-    Rest(usize),
-    Failed,
-}
+ghost use Rattle.sinkshow.specs.Show.{Puts, Shows};
 
 // The length of a frame's line, and the sink's state after the frame.
 struct Shown {
@@ -50,7 +44,7 @@ fn main() {
 // Reads the next frame and shows it, or what is left where the input ends.
 fn show_next(number: u64, state: SinkState) -> Next {
     let mut frame = [0u8; 16];
-    let got = read_frame(&mut frame);
+    let got = stream::gather(STDIN_FILENO, &mut frame);
     match got {
         Got::Whole => show_frame(number, state, &frame),
         Got::Rest(left) => {
@@ -62,26 +56,6 @@ fn show_next(number: u64, state: SinkState) -> Next {
             Next::End
         }
     }
-}
-
-// Fills the frame, by as many reads as it takes.
-fn read_frame(frame: &mut [u8]) -> Got
-    ensures { λ r. ⌜ Gathers (length (now (frame .entry))) r ⌝ }
-{
-    let mut done = 0;
-    while done < frame.len() {
-        let part = &mut frame[done..];
-        let got = libc::read(STDIN_FILENO, part);
-        if got < 0 {
-            return Got::Failed;
-        }
-        let n = io::count(got, part);
-        if n == 0 {
-            return Got::Rest(done);
-        }
-        done += n;
-    }
-    Got::Whole
 }
 
 // Takes a frame and writes its line. Where that fails nothing more is shown. Three numbers of up to 20 digits, a word of up to 8 letters

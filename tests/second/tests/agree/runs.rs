@@ -231,30 +231,26 @@ fn no_false_count(case: &mut Case, settings: Settings, frames: usize) {
     }
 }
 
-#[test]
-fn demand_3_back_after_two_frames() {
-    cases("demand_3_back_after_two_frames", 3_000, |case| {
+/// Watches a claim on source runs of small settings, from so many frames on, and every tenth time on OPU0's and on large settings too.
+fn watch(name: &'static str, least: u32, claim: fn(&mut Case, Settings, usize)) {
+    cases(name, 3_000, |case| {
         let settings = small_settings(&mut case.random);
-        let frames = case.random.from_to(2, 60) as usize;
-        back_after_two_frames(case, settings, frames);
+        let frames = case.random.from_to(least, 60) as usize;
+        claim(case, settings, frames);
         if case.number % 10 == 0 {
-            back_after_two_frames(case, Settings::OPU0, 6);
+            claim(case, Settings::OPU0, 6);
             let settings = large_settings(&mut case.random);
-            back_after_two_frames(case, settings, 6);
+            claim(case, settings, 6);
         }
     });
 }
 
 #[test]
+fn demand_3_back_after_two_frames() {
+    watch("demand_3_back_after_two_frames", 2, back_after_two_frames);
+}
+
+#[test]
 fn demand_3_no_false_count() {
-    cases("demand_3_no_false_count", 3_000, |case| {
-        let settings = small_settings(&mut case.random);
-        let frames = case.random.from_to(1, 60) as usize;
-        no_false_count(case, settings, frames);
-        if case.number % 10 == 0 {
-            no_false_count(case, Settings::OPU0, 6);
-            let settings = large_settings(&mut case.random);
-            no_false_count(case, settings, 6);
-        }
-    });
+    watch("demand_3_no_false_count", 1, no_false_count);
 }

@@ -1,40 +1,19 @@
-//! The program sinkshow on many inputs, against the second implementation's lines. `rt check` or `rt ci` leaves it in target/bin.
+//! The program sinkshow against the second implementation's lines.
 
+use crate::feed::{pieces, run};
 use second::{Random, Settings, Sink, Tally};
-use std::io::Write;
-use std::process::{Command, Stdio};
-use std::thread;
 use std::time::Duration;
 
-const PROGRAM: &str = concat!(env!("CARGO_MANIFEST_DIR"), "/../../target/bin/sinkshow");
 const SETTINGS: Settings = Settings { k: 2, lo: 0, hi: 8 };
 
 const FIRST: [u8; 16] = [0, 0xAA, 0, 0, 0, 0xA6, 0x11, 0, 0, 0x0A, 0, 0x22, 0x07, 0, 0, 0x33];
 const THEN: [u8; 16] = [0, 0, 0, 0x44, 0, 0x10, 0, 0x55, 0, 0xD0, 0, 0x66, 0, 0, 0, 0x77];
 
-/// What the program writes when it is fed these pieces, with a pause after each where one is asked for.
+/// What the program shows when it is fed these pieces.
 fn shown(pieces: Vec<Vec<u8>>, pause: Option<Duration>) -> String {
-    let mut program = Command::new(PROGRAM)
-        .stdin(Stdio::piped())
-        .stdout(Stdio::piped())
-        .stderr(Stdio::piped())
-        .spawn()
-        .unwrap_or_else(|error| panic!("{PROGRAM}: {error}. Run `rt check` in the repository first."));
-    let mut input = program.stdin.take().unwrap();
-    // A thread of its own feeds the program, so that neither waits for the other.
-    let feeder = thread::spawn(move || {
-        for piece in pieces {
-            input.write_all(&piece).expect("the program reads all its input");
-            if let Some(pause) = pause {
-                thread::sleep(pause);
-            }
-        }
-    });
-    let output = program.wait_with_output().unwrap();
-    feeder.join().unwrap();
-    assert!(output.status.success(), "{}", output.status);
-    assert!(output.stderr.is_empty(), "{}", String::from_utf8_lossy(&output.stderr));
-    String::from_utf8(output.stdout).unwrap()
+    let written = run("sinkshow", &[], pieces, pause);
+    assert_eq!(written.said, "");
+    String::from_utf8(written.out).unwrap()
 }
 
 /// The same by the second implementation.
@@ -71,17 +50,6 @@ fn written(random: &mut Random, frames: usize) -> Vec<u8> {
         }
     }
     all
-}
-
-/// Cuts an input into pieces of 1 to so many bytes.
-fn pieces(random: &mut Random, input: &[u8], most: u64) -> Vec<Vec<u8>> {
-    let (mut rest, mut pieces) = (input, Vec::new());
-    while !rest.is_empty() {
-        let length = (1 + random.below(most) as usize).min(rest.len());
-        pieces.push(rest[..length].to_vec());
-        rest = &rest[length..];
-    }
-    pieces
 }
 
 #[test]

@@ -1,16 +1,16 @@
--- `sinkshow::read_frame` meets its contract. What is done lies within the frame, and grows with each read. Assumes nothing.
+-- `stream::gather` meets its contract. What is done lies within the block, and grows with each read. Assumes nothing.
 use mathlib.Core.Path.{_≡_}
 use Prim.Native.Nat.{_-_, _≤_}
 use lib.ListN.{length}
 use borrow.Author.Needs.{needs}
-use Rattle.sinkshow.proofs.read_frame.Statement.{statement}
-use Rattle.sinkshow.proofs.read_frame.Tie as tie
+use Rattle.stream.proofs.gather.Statement.{statement}
+use Rattle.stream.proofs.gather.Tie as tie
 
 abbrev Inv-loop : tie.InvT-loop
-Inv-loop frame₀ done₀ frame done = (done ≤ length frame) × (length frame ≡ length frame₀)
+Inv-loop descriptor block₀ done₀ block done = (done ≤ length block) × (length block ≡ length block₀)
 
 abbrev μ-loop : tie.MeasureT-loop
-μ-loop frame₀ done₀ frame done = length frame - done
+μ-loop descriptor block₀ done₀ block done = length block - done
 
 loop-holds : tie.Need-loop-holds Inv-loop μ-loop
 loop-holds c = search needs
@@ -57,8 +57,8 @@ same-length-3 c = search needs
 returns-3 : tie.Need-returns-3 Inv-loop μ-loop
 returns-3 c = search needs
 
-pub read-frame-spec : {M : Type 1} → statement M
-read-frame-spec =
+pub gather-spec : {M : Type 1} → statement M
+gather-spec =
     tie.close
     (tie.spec
     Inv-loop

@@ -1,0 +1,75 @@
+-- A frame of 15,240 bytes is never refused at OPU0's size, and what the sink makes of it is what the program goes on with. Assumes nothing.
+use mathlib.Core.Path.{_≡_, sym, ap, ap₂, _∙_}
+use mathlib.Core.List.{List, _++_}
+use Prim.Native.Nat.{ℕ}
+use native.Mathlib.Omega.{arith}
+use lib.ListN.{length, take, drop, length-append}
+use lib.Seq.{take-at}
+use Rattle.io.specs.Counts.{Counts}
+use Rattle.settings.specs.declared.Refusal.{Refusal}
+use Rattle.settings.specs.Refusals.{Answer, accepted, refused, refusalNumber}
+use Rattle.settings.specs.Settings.{opu0}
+use Rattle.jc.specs.declared.Standing.{Standing}
+use Rattle.jc.specs.Standing.{Finding, said}
+use Rattle.tally.specs.declared.Tally.{Tally}
+use Rattle.sink.specs.declared.SinkState.{SinkState}
+use Rattle.sink.specs.declared.SinkAnswer.the-variants.{Done, Refused}
+use Rattle.sink.specs.declared.SinkResult.{SinkResult}
+use Rattle.sink.specs.Sink.{sinkNumber, told}
+use Rattle.sink.proofs.Laws.{answer-accepted, state-accepted, handed-accepted, out-accepted}
+use Rattle.card.specs.Card.{tallyBy, tallyAfter, CallPromise}
+use Rattle.odu0demap.specs.declared.Demapper.{Demapper}
+use Rattle.odu0demap.specs.Demapping.{wordNumber, standingOf, bytesOf, Takes}
+
+-- bytes at the start of a buffer, and their number
+first-bytes : (bytes rest after : List ℕ) (n : ℕ) → after ≡ bytes ++ rest → n ≡ length bytes → Counts n after × (take n after ≡ bytes)
+first-bytes bytes rest after n e f =
+    let same : take n after ≡ bytes = ap (take n) e ∙ take-at bytes rest n (sym f) in
+    let long : length after ≡ length (bytes ++ rest) = ap length e in
+    ((omega (arith, long, f, length-append bytes rest), f ∙ sym (ap length same)), same)
+
+-- a demapper by its parts
+demapper-of-parts : {x z : SinkState} {y t : Tally} {w v : ℕ} → x ≡ z → y ≡ t → w ≡ v
+    → _≡_ {A = Demapper} (record { state = x; tally = y; word = w }) (record { state = z; tally = t; word = v })
+demapper-of-parts {x} {z} {y} {t} {w} {v} e f g =
+    ap₂ (λ (a : SinkState) (b : Tally). record { state = a; tally = b; word = w }) e f ∙ ap (λ (k : ℕ). record { state = z; tally = t; word = k }) g
+
+module _ (d : Demapper) (frame out : List ℕ) (size : length frame ≡ 15240) (room : length out ≡ 14410) where
+  none-refused : sinkNumber opu0 (length frame) (length out) ≡ 0
+  unfolding sinkNumber
+  none-refused = rw (size, room)
+
+  tallied : tallyAfter opu0 (d .state) frame out (d .tally) ≡ tallyBy (accepted (standingOf d frame)) (length (bytesOf d frame)) (d .tally)
+  unfolding tallyAfter
+  tallied =
+      ap₂ (λ (x : Answer Finding) (l : List ℕ). tallyBy x (length l) (d .tally)) (answer-accepted opu0 (d .state) frame out none-refused)
+      (handed-accepted opu0 (d .state) frame out none-refused)
+
+  module _ (r : SinkResult) (after : List ℕ) (tally : Tally) (p : CallPromise opu0 (d .state) frame out (d .tally) r after tally) where
+    answered : told (r .answer) ≡ accepted (standingOf d frame)
+    answered = p .sink .answer ∙ answer-accepted opu0 (d .state) frame out none-refused
+
+    pub never-refused : (x : Refusal) → r .answer ≡ Refused x → ⊥
+    never-refused x e =
+        let o : refused (refusalNumber x) ≡ accepted (standingOf d frame) = sym (ap told e) ∙ answered in
+        let zero : _≡_ {A = ℕ} 0 1 = cc in
+        omega arith
+
+    pub takes : (x : Standing) → r .answer ≡ Done x → (w : ℕ) → w ≡ wordNumber (said x .name)
+        → Takes d frame (record { handed = r .handed; standing = x; after = record { state = r .state; tally = tally; word = w } }) after
+    takes x e w f =
+        let o : accepted (said x) ≡ accepted (standingOf d frame) = sym (ap told e) ∙ answered in
+        let s : said x ≡ standingOf d frame = cc in
+        let n : r .handed ≡ length (bytesOf d frame) = p .sink .handed-bytes ∙ ap length (handed-accepted opu0 (d .state) frame out none-refused) in
+        let b =
+        first-bytes (bytesOf d frame) (drop (length (bytesOf d frame)) out) after (r .handed)
+        (p .sink .out-buffer ∙ out-accepted opu0 (d .state) frame out none-refused) n in
+        record {
+          standing = s;
+          after =
+              demapper-of-parts (p .sink .state ∙ state-accepted opu0 (d .state) frame out none-refused) (p .tally ∙ tallied)
+              (f ∙ ap (λ (y : Finding). wordNumber (y .name)) s);
+          number = n;
+          within = b .0;
+          bytes = b .1;
+        }

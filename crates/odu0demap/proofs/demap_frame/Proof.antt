@@ -1,0 +1,53 @@
+-- `odu0demap::demap_frame` meets its contract. Assumes nothing.
+use Rattle.odu0demap.proofs.Laws.{never-refused, takes}
+use borrow.Author.Needs.{needs}
+use Rattle.odu0demap.proofs.demap_frame.Statement.{statement}
+use Rattle.odu0demap.proofs.demap_frame.Tie as tie
+
+count-call-requires : tie.Need-count-call-requires
+count-call-requires c κs = search needs
+
+enum-known-answer : tie.Need-enum-known-answer
+enum-known-answer c = search needs
+
+enum-told : tie.Need-enum-told
+enum-told c = search needs
+
+same-length : tie.Need-same-length
+same-length c = search needs
+
+returns : tie.Need-returns
+returns c =
+    let start = c .before .before .before .before .before .before .before .before .before .before .before .before in
+    let g = start .args in
+    let k = c .before .before .before .before .before .before .before .count-call in
+    absurd
+    (never-refused (g .demapper) (g .frame .now) (g .out .now) (start .pre .0) (start .pre .1) (k .result .result) _ (k .result .tally)
+    (k .ensures) _ (c .enum-told .given .1))
+
+word-number-requires : tie.Need-word-number-requires
+word-number-requires c κs = search needs
+
+same-length-2 : tie.Need-same-length-2
+same-length-2 c = search needs
+
+returns-2 : tie.Need-returns-2
+returns-2 c =
+    let start = c .before .before .before .before .before .before .before .before .before .before .before .before .before .before in
+    let g = start .args in
+    let k = c .before .before .before .before .before .before .before .before .before .count-call in
+    takes (g .demapper) (g .frame .now) (g .out .now) (start .pre .0) (start .pre .1) (k .result .result) _ (k .result .tally) (k .ensures) _
+    (c .before .before .answer .given .1) _ (c .word-number .ensures)
+
+pub demap-frame-spec : {M : Type 1} → statement M
+demap-frame-spec =
+    tie.close
+    (tie.spec
+    count-call-requires
+    enum-known-answer
+    enum-told
+    same-length
+    returns
+    word-number-requires
+    same-length-2
+    returns-2)

@@ -1,0 +1,80 @@
+-- What the program takes: the paper's sink with its tally, at OPU0's size. Assumes nothing.
+use mathlib.Core.Path.{_≡_}
+use mathlib.Core.Bool.{Bool, true, false}
+use mathlib.Core.List.{List}
+use Prim.Native.Nat.{ℕ}
+use lib.Dec.{eqb}
+use lib.ListN.{length, take}
+use Rattle.bits.specs.Choice.{pick, both, sameList}
+use Rattle.io.specs.Counts.{Counts}
+use Rattle.settings.specs.Settings.{opu0}
+use Rattle.stuffing.specs.declared.Control.{Control}
+use Rattle.stuffing.specs.Frame.{controlOf}
+use Rattle.jc.specs.declared.Count.{Count}
+use Rattle.jc.specs.declared.Count.the-variants.{Known, Unknown}
+use Rattle.jc.specs.Standing.{Finding, said, READ, TRACKED, PAIRED, BADCHECK, WAITING}
+use Rattle.tally.specs.Tally.{added}
+use Rattle.sink.specs.Sink.{newSink, handed, standingAfter, stateAfter}
+use Rattle.card.specs.Card.{badFrames}
+use Rattle.odu0demap.specs.declared.Demapper.{Demapper}
+use Rattle.odu0demap.specs.declared.Taken.{Taken}
+use Rattle.odu0demap.specs.declared.Next.{Next}
+use Rattle.odu0demap.specs.declared.Next.the-variants.{From, End}
+
+-- the number of a standing's word: 6 is OUTSIDE
+abbrev pub wordNumber : List ℕ → ℕ
+wordNumber w =
+    pick (sameList w READ) 1
+    (pick (sameList w TRACKED) 2
+    (pick (sameList w PAIRED) 3
+    (pick (sameList w BADCHECK) 4
+    (pick (sameList w WAITING) 5
+    6))))
+
+-- the control bytes of a frame
+abbrev pub control : List ℕ → Control
+control frame = controlOf 3808 frame
+
+-- the standing that a frame leads to, and the client bytes that it hands out
+abbrev pub standingOf : Demapper → List ℕ → Finding
+standingOf d frame = standingAfter opu0 (d .state) (control frame)
+
+abbrev pub bytesOf : Demapper → List ℕ → List ℕ
+bytesOf d frame = handed opu0 (d .state) frame
+
+-- a new sink, with nothing tallied and no word yet
+abbrev pub newDemapper : Demapper
+newDemapper = record { state = newSink; tally = record { frames = 0; bad = 0; bytes = 0 }; word = 0 }
+
+-- the demapper after a frame
+abbrev pub demapperAfter : Demapper → List ℕ → Demapper
+demapperAfter d frame =
+    record {
+      state = stateAfter opu0 (d .state) (control frame);
+      tally = added (d .tally) 1 (badFrames (standingOf d frame)) (length (bytesOf d frame));
+      word = wordNumber (standingOf d frame .name);
+    }
+
+-- two counts are the same, known or not
+abbrev pub sameCount : Count → Count → Bool
+sameCount (Known n) (Known m) = eqb n m
+sameCount (Known n) Unknown = false
+sameCount Unknown (Known m) = false
+sameCount Unknown Unknown = true
+
+-- a standing is that of the frame before: the same word, and the same count found, which the sink's state has kept
+abbrev pub isSame : Demapper → Finding → Bool
+isSame d f = both (eqb (wordNumber (f .name)) (d .word)) (sameCount (f .count) (d .state .count))
+
+-- what is gone on from
+abbrev pub Goes : Demapper → List ℕ → Next → Type 0
+Goes d frame (From r) = r ≡ demapperAfter d frame
+Goes d frame End = Unit
+
+-- A frame taken: its standing, the demapper after it, and the client bytes at the start of the output buffer, with their number.
+pub record Takes (d : Demapper) (frame : List ℕ) (r : Taken) (out : List ℕ) : Type 0 where
+  pub standing : said (r .standing) ≡ standingOf d frame
+  pub after : r .after ≡ demapperAfter d frame
+  pub number : r .handed ≡ length (bytesOf d frame)
+  pub within : Counts (r .handed) out
+  pub bytes : take (r .handed) out ≡ bytesOf d frame

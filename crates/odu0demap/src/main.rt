@@ -1,0 +1,240 @@
+// Takes OPU0 frames on standard input and hands out their client bytes on standard output. On standard error it writes a line for the first
+// frame's standing and for each change of it, in its word or in the count found, and at the end the card's tally.
+use jc::Count;
+use jc::Standing;
+use libc::STDERR_FILENO;
+use libc::STDIN_FILENO;
+use libc::STDOUT_FILENO;
+use settings::Settings;
+use sink::SinkAnswer;
+use sink::SinkState;
+use stream::Got;
+use tally::Tally;
+ghost use mathlib.Core.Path.{_≡_};
+ghost use lib.ListN.{length};
+ghost use Rattle.jc.specs.Standing.{said};
+ghost use Rattle.odu0demap.specs.Demapping.{wordNumber, newDemapper, sameCount, isSame, Goes, Takes};
+
+// The sink's state, the card's tally, and the number of the last standing's word, 0 before the first frame.
+struct Demapper {
+    state: SinkState,
+    tally: Tally,
+    word: u32,
+}
+
+// What a frame came to: the bytes handed out, its standing, and the demapper after it.
+struct Taken {
+    handed: u32,
+    standing: Standing,
+    after: Demapper,
+}
+
+// The demapper to go on from, or that there is no more to hand out.
+enum Next {
+    From(Demapper),
+    End,
+}
+
+// Takes all frames; an argument is wrong.
+fn main() {
+    if os::arg_count() > 1 {
+        io::write_all(
+            STDERR_FILENO,
+            b"odu0demap: it takes no argument\nusage: odu0demap, frames on standard input, client bytes on standard output\n",
+        );
+        return;
+    }
+    demap_all();
+}
+
+// Takes frame after frame. A proved loop has to end: this one does at the largest frame number, which no run reaches.
+fn demap_all() {
+    let mut demapper = new_demapper();
+    let mut number: u64 = 0;
+    while number < u64::MAX {
+        number += 1;
+        let next = take_next(number, demapper);
+        let Next::From(after) = next else {
+            show_tally(demapper.tally);
+            return;
+        };
+        demapper = after;
+    }
+}
+
+// A new sink, with nothing tallied.
+fn new_demapper() -> Demapper
+    ensures { λ r. ⌜ r ≡ newDemapper ⌝ }
+{
+    let state = sink::new_sink();
+    Demapper {
+        state: state,
+        tally: Tally {
+            frames: 0,
+            bad: 0,
+            bytes: 0,
+        },
+        word: 0,
+    }
+}
+
+// Reads the next frame and takes it, or says what is left where the input ends.
+fn take_next(number: u64, demapper: Demapper) -> Next {
+    let mut frame = [0u8; 15240];
+    let got = stream::gather(STDIN_FILENO, &mut frame);
+    match got {
+        Got::Whole => take_frame(number, demapper, &frame),
+        Got::Rest(left) => {
+            show_left(left);
+            Next::End
+        }
+        Got::Failed => {
+            os::fail(b"odu0demap: standard input");
+            Next::End
+        }
+    }
+}
+
+// Takes a frame, says how its standing changed and writes its client bytes. Where that fails no more is handed out.
+fn take_frame(number: u64, demapper: Demapper, frame: &[u8]) -> Next
+    requires { ⌜ length (now frame) ≡ 15240 ⌝ }
+    ensures { λ r. ⌜ Goes demapper (now (frame .entry)) r ⌝ }
+{
+    let mut out = [0u8; 14410];
+    let taken = demap_frame(demapper, frame, &mut out);
+    let standing = taken.standing;
+    let after = taken.after;
+    show_change(number, demapper, standing);
+    if write_client(&out[..taken.handed as usize]) {
+        return Next::From(after);
+    }
+    Next::End
+}
+
+// Hands a frame to the sink and tallies it. With these settings and lengths no call is refused.
+fn demap_frame(demapper: Demapper, frame: &[u8], out: &mut [u8]) -> Taken
+    requires { ⌜ (length (now frame) ≡ 15240) × (length (now out) ≡ 14410) ⌝ }
+    ensures { λ r. ⌜ Takes demapper (now (frame .entry)) r (now (out .exit)) ⌝ }
+{
+    let settings = Settings {
+        k: 3808,
+        lo: 14405,
+        hi: 14410,
+    };
+    let state = demapper.state;
+    let counted = card::count_call(settings, state, frame, out, demapper.tally);
+    let result = counted.result;
+    let tally = counted.tally;
+    let answer = result.answer;
+    let after = result.state;
+    let SinkAnswer::Done(standing) = answer else {
+        return Taken {
+            handed: 0,
+            standing: Standing::Waiting,
+            after: demapper,
+        };
+    };
+    Taken {
+        handed: result.handed,
+        standing: standing,
+        after: Demapper {
+            state: after,
+            tally: tally,
+            word: word_number(standing),
+        },
+    }
+}
+
+// The number of a standing's word, from 1.
+fn word_number(standing: Standing) -> u32
+    ensures { λ r. ⌜ r ≡ wordNumber (said standing .name) ⌝ }
+{
+    match standing {
+        Standing::Read(_) => 1,
+        Standing::Tracked(_) => 2,
+        Standing::Paired(_) => 3,
+        Standing::BadCheck => 4,
+        Standing::Waiting => 5,
+        Standing::Outside => 6,
+    }
+}
+
+// Writes client bytes to standard output, or says on standard error why that failed.
+fn write_client(bytes: &[u8]) -> bool {
+    let is_written = io::write_all(STDOUT_FILENO, bytes);
+    if !is_written {
+        os::fail(b"odu0demap: standard output");
+    }
+    is_written
+}
+
+// Says the standing of a frame and its count or "-", where that is not what the frame before had.
+fn show_change(number: u64, before: Demapper, standing: Standing) {
+    if is_same(before, standing) {
+        return;
+    }
+    stream::say(b"frame ", number, b": ");
+    show_word(standing);
+    let count = jc::found_count(standing);
+    let Count::Known(n) = count else {
+        io::write_all(STDERR_FILENO, b" -\n");
+        return;
+    };
+    stream::say(b" ", n as u64, b"\n");
+}
+
+// Whether a standing is that of the frame before: the same word, and the same count found, which the sink's state has kept.
+fn is_same(before: Demapper, standing: Standing) -> bool
+    ensures { λ r. ⌜ r ≡ isSame before (said standing) ⌝ }
+{
+    let state = before.state;
+    let kept = state.count;
+    if word_number(standing) != before.word {
+        return false;
+    }
+    is_same_count(jc::found_count(standing), kept)
+}
+
+// Whether two counts are the same, known or not.
+fn is_same_count(one: Count, other: Count) -> bool
+    ensures { λ r. ⌜ r ≡ sameCount one other ⌝ }
+{
+    let Count::Known(n) = one else {
+        let Count::Known(_) = other else {
+            return true;
+        };
+        return false;
+    };
+    let Count::Known(m) = other else {
+        return false;
+    };
+    n == m
+}
+
+// Writes the word of a standing to standard error.
+fn show_word(standing: Standing) {
+    match standing {
+        Standing::Read(_) => io::write_all(STDERR_FILENO, b"READ"),
+        Standing::Tracked(_) => io::write_all(STDERR_FILENO, b"TRACKED"),
+        Standing::Paired(_) => io::write_all(STDERR_FILENO, b"PAIRED"),
+        Standing::BadCheck => io::write_all(STDERR_FILENO, b"BADCHECK"),
+        Standing::Waiting => io::write_all(STDERR_FILENO, b"WAITING"),
+        Standing::Outside => io::write_all(STDERR_FILENO, b"OUTSIDE"),
+    }
+    ;
+}
+
+// Says how many bytes of a frame were left where the input ended within it.
+fn show_left(left: usize) {
+    if left == 0 {
+        return;
+    }
+    stream::say(b"odu0demap: ", left as u64, b" bytes left at the end\n");
+}
+
+// Says the tally: frames taken, BADCHECK frames and bytes handed out.
+fn show_tally(tally: Tally) {
+    stream::say(b"odu0demap: frames ", tally.frames as u64, b"");
+    stream::say(b", BADCHECK ", tally.bad as u64, b"");
+    stream::say(b", bytes ", tally.bytes as u64, b"\n");
+}

@@ -1,0 +1,2 @@
+-- The program odu0map. Assumes nothing.
+mod Laws

@@ -1,0 +1,260 @@
+// Maps standard input, a stream of client bytes, into OPU0 frames on standard output, at the rate p / q of client bytes a frame. The two
+// numbers are the program's arguments; with none the rate is 18,671,875 / 1,296.
+use libc::STDERR_FILENO;
+use libc::STDIN_FILENO;
+use libc::STDOUT_FILENO;
+use rate::KeeperAnswer;
+use settings::Refusal;
+use settings::Settings;
+use settings::Verdict;
+use source::SourceStart;
+use source::SourceState;
+use stream::Got;
+use stream::Number;
+ghost use mathlib.Core.Path.{_≡_};
+ghost use lib.ListN.{length};
+ghost use Rattle.settings.specs.Settings.{opu0};
+ghost use Rattle.odu0map.specs.Mapping.{Ready, startTold, startAnswer, Goes, Maps};
+
+// The rate p / q.
+struct Rate {
+    p: u32,
+    q: u32,
+}
+
+// The rate that the arguments ask for, or that they are wrong.
+enum Asked {
+    At(Rate),
+    Wrong,
+}
+
+// The source's state, and the rate keeper's remainder.
+struct Mapper {
+    source: SourceState,
+    remainder: u32,
+}
+
+// A new mapper, or why there is none.
+enum Start {
+    New(Mapper),
+    Refused(Refusal),
+}
+
+// The mapper to go on from, or that there is nothing more to map.
+enum Next {
+    From(Mapper),
+    End,
+}
+
+// Maps the input at the rate asked for, or says why it cannot.
+fn main() {
+    let asked = asked_rate();
+    let Asked::At(rate) = asked else {
+        io::write_all(
+            STDERR_FILENO,
+            b"odu0map: the arguments are not two decimal numbers of 32 bits\n",
+        );
+        show_usage();
+        return;
+    };
+    let start = new_mapper(rate);
+    match start {
+        Start::New(mapper) => map_all(rate, mapper),
+        Start::Refused(refusal) => show_refusal(refusal),
+    }
+}
+
+// The rate that the arguments give, or the usual one where there are none.
+fn asked_rate() -> Asked {
+    if os::arg_count() < 2 {
+        return Asked::At(Rate {
+            p: 18671875,
+            q: 1296,
+        });
+    }
+    if os::arg_count() != 3 {
+        return Asked::Wrong;
+    }
+    let first = stream::argument(1);
+    let Number::Value(p) = first else {
+        return Asked::Wrong;
+    };
+    let second = stream::argument(2);
+    let Number::Value(q) = second else {
+        return Asked::Wrong;
+    };
+    Asked::At(Rate { p: p, q: q })
+}
+
+// A new rate keeper, and a new source with the keeper's first count and payload type 7. The source never refuses that count.
+fn new_mapper(rate: Rate) -> Start
+    ensures { λ r. ⌜ startTold r ≡ startAnswer rate ⌝ }
+{
+    let kept = rate::next_count(opu0(), rate.p, rate.q, rate::first_remainder(rate.q));
+    let answer = kept.answer;
+    let remainder = kept.remainder;
+    match answer {
+        KeeperAnswer::Refused(refusal) => Start::Refused(refusal),
+        KeeperAnswer::Next(first) => {
+            let started = source::new_source(opu0(), first, 7);
+            match started {
+                SourceStart::Refused(refusal) => Start::Refused(refusal),
+                SourceStart::New(state) => Start::New(Mapper {
+                    source: state,
+                    remainder: remainder,
+                }),
+            }
+        }
+    }
+}
+
+// Maps load after load, and says how many. A proved loop has to end: this one does at the largest frame number, which no run reaches.
+fn map_all(rate: Rate, new: Mapper)
+    requires { ⌜ Ready rate new ⌝ }
+{
+    let mut mapper = new;
+    let mut frames: u64 = 0;
+    let mut bytes: u64 = 0;
+    while frames < u64::MAX {
+        let count = mapper.source.count as u64;
+        let next = map_next(rate, mapper);
+        let Next::From(after) = next else {
+            show_totals(frames, bytes);
+            return;
+        };
+        mapper = after;
+        frames += 1;
+        bytes = std::num::wrapping_add_u64(bytes, count);
+    }
+}
+
+// Maps the next load, with room for the largest.
+fn map_next(rate: Rate, mapper: Mapper) -> Next
+    requires { ⌜ Ready rate mapper ⌝ }
+    ensures { λ r. ⌜ Goes rate mapper r ⌝ }
+{
+    let mut client = [0u8; 14410];
+    take_load(rate, mapper, &mut client)
+}
+
+// Reads a load, the present count of client bytes, and maps it, or says what is left where the input ends.
+fn take_load(rate: Rate, mapper: Mapper, client: &mut [u8]) -> Next
+    requires { ⌜ Ready rate mapper × (length (now client) ≡ 14410) ⌝ }
+    ensures { λ r. ⌜ Goes rate mapper r ⌝ }
+{
+    let load = &mut client[..mapper.source.count as usize];
+    let got = stream::gather(STDIN_FILENO, load);
+    match got {
+        Got::Whole => map_load(rate, mapper, load),
+        Got::Rest(left) => {
+            show_left(left);
+            Next::End
+        }
+        Got::Failed => {
+            os::fail(b"odu0map: standard input");
+            Next::End
+        }
+    }
+}
+
+// Maps a load and writes its frame. Where that fails nothing more is mapped.
+fn map_load(rate: Rate, mapper: Mapper, load: &[u8]) -> Next
+    requires { ⌜ Ready rate mapper × (length (now load) ≡ mapper .source .count) ⌝ }
+    ensures { λ r. ⌜ Goes rate mapper r ⌝ }
+{
+    let mut frame = [0u8; 15240];
+    let after = make_frame(rate, mapper, load, &mut frame);
+    if write_frame(&frame) {
+        return Next::From(after);
+    }
+    Next::End
+}
+
+// Makes the frame of a load, which announces the keeper's next count. Neither the keeper nor the source refuses.
+fn make_frame(rate: Rate, mapper: Mapper, load: &[u8], frame: &mut [u8]) -> Mapper
+    requires { ⌜ Ready rate mapper × (length (now load) ≡ mapper .source .count) × (length (now frame) ≡ 15240) ⌝ }
+    ensures { λ r. ⌜ Maps rate mapper (now (load .entry)) r (now (frame .exit)) ⌝ }
+{
+    let kept = rate::next_count(opu0(), rate.p, rate.q, mapper.remainder);
+    let answer = kept.answer;
+    let KeeperAnswer::Next(next) = answer else {
+        return mapper;
+    };
+    let source = mapper.source;
+    let result = source::source_call(opu0(), source, next, load, frame);
+    let after = result.state;
+    Mapper {
+        source: after,
+        remainder: kept.remainder,
+    }
+}
+
+// Writes a frame to standard output, or says on standard error why that failed.
+fn write_frame(frame: &[u8]) -> bool {
+    let is_written = io::write_all(STDOUT_FILENO, frame);
+    if !is_written {
+        os::fail(b"odu0map: standard output");
+    }
+    is_written
+}
+
+// The settings of OPU0.
+fn opu0() -> Settings
+    ensures { λ r. ⌜ r ≡ opu0 ⌝ }
+{
+    Settings {
+        k: 3808,
+        lo: 14405,
+        hi: 14410,
+    }
+}
+
+// Says how many bytes were not mapped, where there are any.
+fn show_left(left: usize) {
+    if left == 0 {
+        return;
+    }
+    stream::say(b"odu0map: ", left as u64, b" bytes left at the end\n");
+}
+
+// Says how many frames were written, and how many client bytes they carry.
+fn show_totals(frames: u64, bytes: u64) {
+    stream::say(b"odu0map: frames ", frames, b"");
+    stream::say(b", bytes ", bytes, b"\n");
+}
+
+// Says why there is no mapper, by the word and the number of the refusal.
+fn show_refusal(refusal: Refusal) {
+    io::write_all(STDERR_FILENO, b"odu0map: refused, ");
+    show_word(refusal);
+    stream::say(
+        b" (number ",
+        settings::number(Verdict::Refused(refusal)) as u64,
+        b")\n",
+    );
+    show_usage();
+}
+
+// Writes the word of a refusal to standard error.
+fn show_word(refusal: Refusal) {
+    match refusal {
+        Refusal::Grid => io::write_all(STDERR_FILENO, b"grid"),
+        Refusal::Window => io::write_all(STDERR_FILENO, b"window"),
+        Refusal::Divisor => io::write_all(STDERR_FILENO, b"divisor"),
+        Refusal::Rate => io::write_all(STDERR_FILENO, b"rate"),
+        Refusal::State => io::write_all(STDERR_FILENO, b"state"),
+        Refusal::Count => io::write_all(STDERR_FILENO, b"count"),
+        Refusal::Client => io::write_all(STDERR_FILENO, b"client"),
+        Refusal::Frame => io::write_all(STDERR_FILENO, b"frame"),
+        Refusal::Space => io::write_all(STDERR_FILENO, b"space"),
+    }
+    ;
+}
+
+// Says how the program is called.
+fn show_usage() {
+    io::write_all(
+        STDERR_FILENO,
+        b"usage: odu0map [P Q], client bytes a frame as P / Q: Q from 1 to 65535, P / Q from 14405 to 14410\n",
+    );
+}

@@ -1,0 +1,2 @@
+-- What the filters share. Assumes nothing.
+mod Reading

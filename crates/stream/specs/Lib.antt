@@ -1,0 +1,3 @@
+-- What the filters share. Assumes nothing.
+pub mod Gather
+pub mod Number
