@@ -1,6 +1,7 @@
 -- The six standings (01, "Sink"): "one of these six standings, each with what it found: a count, or nothing". Assumes nothing.
 use mathlib.Core.List.{List, [], _∷_}
 use Prim.Native.Nat.{ℕ}
+use Rattle.bits.specs.Choice.{pick, sameList}
 use Rattle.jc.specs.declared.Count.{Count}
 use Rattle.jc.specs.declared.Count.the-variants.{Known, Unknown}
 use Rattle.jc.specs.declared.Standing.{Standing}
@@ -41,3 +42,13 @@ said (Paired n) = finding PAIRED (Known n)
 said BadCheck = finding BADCHECK Unknown
 said Waiting = finding WAITING Unknown
 said Outside = finding OUTSIDE Unknown
+
+-- a standing by its number, for programs: READ 1, TRACKED 2, PAIRED 3, BADCHECK 4, WAITING 5, OUTSIDE 6
+abbrev pub standingNumber : List ℕ → ℕ
+standingNumber name =
+    pick (sameList name READ) 1
+    (pick (sameList name TRACKED) 2
+    (pick (sameList name PAIRED) 3
+    (pick (sameList name BADCHECK) 4
+    (pick (sameList name WAITING) 5
+    (pick (sameList name OUTSIDE) 6 0)))))

@@ -6,7 +6,7 @@ ghost use lib.Bits.{bitXor};
 ghost use Rattle.jc.specs.Word.{moved, wordOf, countBits, equalIndicators, sign, bytesOf, wordBy};
 ghost use Rattle.jc.specs.Pattern.{tableOf, patternAt, changeAt};
 ghost use Rattle.jc.specs.Announce.{announced};
-ghost use Rattle.jc.specs.Standing.{said};
+ghost use Rattle.jc.specs.Standing.{said, standingNumber};
 ghost use Rattle.jc.specs.Follow.{inside, signed, tracked, candidate, paired, fromCount, fromWord, hunted, reading, windowed, Follows};
 ghost use Rattle.jc.specs.Claims.{TablesServe};
 
@@ -124,6 +124,20 @@ pub fn found_count(standing: Standing) -> Count
         Standing::BadCheck => Count::Unknown,
         Standing::Waiting => Count::Unknown,
         Standing::Outside => Count::Unknown,
+    }
+}
+
+// The number of a standing, 1 to 6.
+pub fn standing_number(standing: Standing) -> u32
+    ensures { λ r. ⌜ r ≡ standingNumber (said standing .name) ⌝ }
+{
+    match standing {
+        Standing::Read(_) => 1,
+        Standing::Tracked(_) => 2,
+        Standing::Paired(_) => 3,
+        Standing::BadCheck => 4,
+        Standing::Waiting => 5,
+        Standing::Outside => 6,
     }
 }
 

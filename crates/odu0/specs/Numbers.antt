@@ -4,14 +4,14 @@ use mathlib.Core.List.{List, [], _∷_}
 use Prim.Native.Nat.{ℕ}
 use lib.Dec.{eqb}
 use lib.ListN.{length, getD}
-use Rattle.bits.specs.Choice.{pick, sameList}
+use Rattle.bits.specs.Choice.{pick}
 use Rattle.settings.specs.declared.Settings.{Settings}
 use Rattle.settings.specs.Refusals.{Answer, accepted, refused}
 use Rattle.jc.specs.declared.Count.{Count}
 use Rattle.jc.specs.declared.Count.the-variants.{Known, Unknown}
 use Rattle.jc.specs.declared.Remembered.{Remembered}
 use Rattle.jc.specs.declared.Remembered.the-variants.{Word, Nothing}
-use Rattle.jc.specs.Standing.{Finding, finding, READ, TRACKED, PAIRED, BADCHECK, WAITING, OUTSIDE}
+use Rattle.jc.specs.Standing.{Finding, standingNumber}
 use Rattle.rate.specs.Rate.{Kept, keeperCall}
 use Rattle.source.specs.declared.SourceState.{SourceState}
 use Rattle.source.specs.Source.{sourceNumber, sourceState}
@@ -60,16 +60,6 @@ stateNumbers z =
 abbrev pub refusalOf : {A : Type 0} → Answer A → ℕ
 refusalOf (accepted a) = 0
 refusalOf (refused n) = n
-
--- a standing by its number: READ 1, TRACKED 2, PAIRED 3, BADCHECK 4, WAITING 5, OUTSIDE 6
-abbrev pub standingNumber : List ℕ → ℕ
-standingNumber name =
-    pick (sameList name READ) 1
-    (pick (sameList name TRACKED) 2
-    (pick (sameList name PAIRED) 3
-    (pick (sameList name BADCHECK) 4
-    (pick (sameList name WAITING) 5
-    (pick (sameList name OUTSIDE) 6 0)))))
 
 -- the standing's number, 0 where the call was refused, and what it found
 abbrev pub standingOf : Answer Finding → ℕ

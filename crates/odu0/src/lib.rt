@@ -1,7 +1,6 @@
 // The mapper for C and Rust: numbers and buffers in, numbers out. All meaning is in the crates below; here values are only converted.
 use jc::Count;
 use jc::Remembered;
-use jc::Standing;
 use rate::KeeperAnswer;
 use rate::KeeperResult;
 use settings::Settings;
@@ -15,11 +14,10 @@ use tally::Tally;
 ghost use mathlib.Core.Path.{_≡_};
 ghost use lib.ListN.{length};
 ghost use Rattle.settings.specs.Refusals.{verdictNumber};
-ghost use Rattle.jc.specs.Standing.{said};
 ghost use Rattle.rate.specs.Rate.{keeperCall, firstRemainder, told as keptTold};
 ghost use Rattle.source.specs.Source.{newSource, startTold, sourceFrame};
 ghost use Rattle.sink.specs.Sink.{newSink, told};
-ghost use Rattle.odu0.specs.Numbers.{countFrom, countFlag, countNumber, wordFrom, wordFlag, wordNumber, stateFrom, stateNumbers, refusalOf, standingOf, standingNumber, foundOf, startReply, sourceReply, keeperReply, stateReply, sinkReplyBy, SinkCallPromise};
+ghost use Rattle.odu0.specs.Numbers.{countFrom, countFlag, countNumber, wordFrom, wordFlag, wordNumber, stateFrom, stateNumbers, refusalOf, standingOf, foundOf, startReply, sourceReply, keeperReply, stateReply, sinkReplyBy, SinkCallPromise};
 ghost use Rattle.odu0.specs.Lossless.{Lossless};
 
 // A sink's state: a flag, 0 for none, beside the count and beside the remembered word.
@@ -220,21 +218,8 @@ fn standing_of(answer: SinkAnswer) -> u32
     ensures { λ r. ⌜ r ≡ standingOf (told answer) ⌝ }
 {
     match answer {
-        SinkAnswer::Done(standing) => standing_number(standing),
+        SinkAnswer::Done(standing) => jc::standing_number(standing),
         SinkAnswer::Refused(_) => 0,
-    }
-}
-
-fn standing_number(standing: Standing) -> u32
-    ensures { λ r. ⌜ r ≡ standingNumber (said standing .name) ⌝ }
-{
-    match standing {
-        Standing::Read(_) => 1,
-        Standing::Tracked(_) => 2,
-        Standing::Paired(_) => 3,
-        Standing::BadCheck => 4,
-        Standing::Waiting => 5,
-        Standing::Outside => 6,
     }
 }
 

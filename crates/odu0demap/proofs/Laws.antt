@@ -10,7 +10,7 @@ use Rattle.settings.specs.declared.Refusal.{Refusal}
 use Rattle.settings.specs.Refusals.{Answer, accepted, refused, refusalNumber}
 use Rattle.settings.specs.Settings.{opu0}
 use Rattle.jc.specs.declared.Standing.{Standing}
-use Rattle.jc.specs.Standing.{Finding, said}
+use Rattle.jc.specs.Standing.{Finding, said, standingNumber}
 use Rattle.tally.specs.declared.Tally.{Tally}
 use Rattle.sink.specs.declared.SinkState.{SinkState}
 use Rattle.sink.specs.declared.SinkAnswer.the-variants.{Done, Refused}
@@ -19,7 +19,7 @@ use Rattle.sink.specs.Sink.{sinkNumber, told}
 use Rattle.sink.proofs.Laws.{answer-accepted, state-accepted, handed-accepted, out-accepted}
 use Rattle.card.specs.Card.{tallyBy, tallyAfter, CallPromise}
 use Rattle.odu0demap.specs.declared.Demapper.{Demapper}
-use Rattle.odu0demap.specs.Demapping.{wordNumber, standingOf, bytesOf, Takes}
+use Rattle.odu0demap.specs.Demapping.{standingOf, bytesOf, Takes}
 
 -- bytes at the start of a buffer, and their number
 first-bytes : (bytes rest after : List ℕ) (n : ℕ) → after ≡ bytes ++ rest → n ≡ length bytes → Counts n after × (take n after ≡ bytes)
@@ -55,7 +55,7 @@ module _ (d : Demapper) (frame out : List ℕ) (size : length frame ≡ 15240) (
         let zero : _≡_ {A = ℕ} 0 1 = cc in
         omega arith
 
-    pub takes : (x : Standing) → r .answer ≡ Done x → (w : ℕ) → w ≡ wordNumber (said x .name)
+    pub takes : (x : Standing) → r .answer ≡ Done x → (w : ℕ) → w ≡ standingNumber (said x .name)
         → Takes d frame (record { handed = r .handed; standing = x; after = record { state = r .state; tally = tally; word = w } }) after
     takes x e w f =
         let o : accepted (said x) ≡ accepted (standingOf d frame) = sym (ap told e) ∙ answered in
@@ -68,7 +68,7 @@ module _ (d : Demapper) (frame out : List ℕ) (size : length frame ≡ 15240) (
           standing = s;
           after =
               demapper-of-parts (p .sink .state ∙ state-accepted opu0 (d .state) frame out none-refused) (p .tally ∙ tallied)
-              (f ∙ ap (λ (y : Finding). wordNumber (y .name)) s);
+              (f ∙ ap (λ (y : Finding). standingNumber (y .name)) s);
           number = n;
           within = b .0;
           bytes = b .1;

@@ -5,14 +5,14 @@ use mathlib.Core.List.{List}
 use Prim.Native.Nat.{ℕ}
 use lib.Dec.{eqb}
 use lib.ListN.{length, take}
-use Rattle.bits.specs.Choice.{pick, both, sameList}
+use Rattle.bits.specs.Choice.{both}
 use Rattle.io.specs.Counts.{Counts}
 use Rattle.settings.specs.Settings.{opu0}
 use Rattle.stuffing.specs.declared.Control.{Control}
 use Rattle.stuffing.specs.Frame.{controlOf}
 use Rattle.jc.specs.declared.Count.{Count}
 use Rattle.jc.specs.declared.Count.the-variants.{Known, Unknown}
-use Rattle.jc.specs.Standing.{Finding, said, READ, TRACKED, PAIRED, BADCHECK, WAITING}
+use Rattle.jc.specs.Standing.{Finding, said, standingNumber}
 use Rattle.tally.specs.Tally.{added}
 use Rattle.sink.specs.Sink.{newSink, handed, standingAfter, stateAfter}
 use Rattle.card.specs.Card.{badFrames}
@@ -20,16 +20,6 @@ use Rattle.odu0demap.specs.declared.Demapper.{Demapper}
 use Rattle.odu0demap.specs.declared.Taken.{Taken}
 use Rattle.odu0demap.specs.declared.Next.{Next}
 use Rattle.odu0demap.specs.declared.Next.the-variants.{From, End}
-
--- the number of a standing's word: 6 is OUTSIDE
-abbrev pub wordNumber : List ℕ → ℕ
-wordNumber w =
-    pick (sameList w READ) 1
-    (pick (sameList w TRACKED) 2
-    (pick (sameList w PAIRED) 3
-    (pick (sameList w BADCHECK) 4
-    (pick (sameList w WAITING) 5
-    6))))
 
 -- the control bytes of a frame
 abbrev pub control : List ℕ → Control
@@ -52,7 +42,7 @@ demapperAfter d frame =
     record {
       state = stateAfter opu0 (d .state) (control frame);
       tally = added (d .tally) 1 (badFrames (standingOf d frame)) (length (bytesOf d frame));
-      word = wordNumber (standingOf d frame .name);
+      word = standingNumber (standingOf d frame .name);
     }
 
 -- two counts are the same, known or not
@@ -64,7 +54,7 @@ sameCount Unknown Unknown = true
 
 -- a standing is that of the frame before: the same word, and the same count found, which the sink's state has kept
 abbrev pub isSame : Demapper → Finding → Bool
-isSame d f = both (eqb (wordNumber (f .name)) (d .word)) (sameCount (f .count) (d .state .count))
+isSame d f = both (eqb (standingNumber (f .name)) (d .word)) (sameCount (f .count) (d .state .count))
 
 -- what is gone on from
 abbrev pub Goes : Demapper → List ℕ → Next → Type 0

@@ -13,7 +13,7 @@ use tally::Tally;
 ghost use mathlib.Core.Path.{_≡_};
 ghost use lib.ListN.{length};
 ghost use Rattle.jc.specs.Standing.{said};
-ghost use Rattle.odu0demap.specs.Demapping.{wordNumber, newDemapper, sameCount, isSame, Goes, Takes};
+ghost use Rattle.odu0demap.specs.Demapping.{newDemapper, sameCount, isSame, Goes, Takes};
 
 // The sink's state, the card's tally, and the number of the last standing's word, 0 before the first frame.
 struct Demapper {
@@ -140,22 +140,8 @@ fn demap_frame(demapper: Demapper, frame: &[u8], out: &mut [u8]) -> Taken
         after: Demapper {
             state: after,
             tally: tally,
-            word: word_number(standing),
+            word: jc::standing_number(standing),
         },
-    }
-}
-
-// The number of a standing's word, from 1.
-fn word_number(standing: Standing) -> u32
-    ensures { λ r. ⌜ r ≡ wordNumber (said standing .name) ⌝ }
-{
-    match standing {
-        Standing::Read(_) => 1,
-        Standing::Tracked(_) => 2,
-        Standing::Paired(_) => 3,
-        Standing::BadCheck => 4,
-        Standing::Waiting => 5,
-        Standing::Outside => 6,
     }
 }
 
@@ -189,7 +175,7 @@ fn is_same(before: Demapper, standing: Standing) -> bool
 {
     let state = before.state;
     let kept = state.count;
-    if word_number(standing) != before.word {
+    if jc::standing_number(standing) != before.word {
         return false;
     }
     is_same_count(jc::found_count(standing), kept)

@@ -25,8 +25,8 @@ returns c =
     (never-refused (g .demapper) (g .frame .now) (g .out .now) (start .pre .0) (start .pre .1) (k .result .result) _ (k .result .tally)
     (k .ensures) _ (c .enum-told .given .1))
 
-word-number-requires : tie.Need-word-number-requires
-word-number-requires c κs = search needs
+standing-number-requires : tie.Need-standing-number-requires
+standing-number-requires c κs = search needs
 
 same-length-2 : tie.Need-same-length-2
 same-length-2 c = search needs
@@ -37,7 +37,7 @@ returns-2 c =
     let g = start .args in
     let k = c .before .before .before .before .before .before .before .before .before .count-call in
     takes (g .demapper) (g .frame .now) (g .out .now) (start .pre .0) (start .pre .1) (k .result .result) _ (k .result .tally) (k .ensures) _
-    (c .before .before .answer .given .1) _ (c .word-number .ensures)
+    (c .before .before .answer .given .1) _ (c .standing-number .ensures)
 
 pub demap-frame-spec : {M : Type 1} → statement M
 demap-frame-spec =
@@ -48,6 +48,6 @@ demap-frame-spec =
     enum-told
     same-length
     returns
-    word-number-requires
+    standing-number-requires
     same-length-2
     returns-2)

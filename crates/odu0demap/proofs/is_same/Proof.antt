@@ -2,19 +2,18 @@
 use native.Mathlib.Omega.{arith}
 use borrow.Author.Needs.{needs}
 use borrow.Author.Tests.{eq-eqb, ne-eqb}
-use Rattle.jc.specs.Standing.{said}
-use Rattle.odu0demap.specs.Demapping.{wordNumber}
+use Rattle.jc.specs.Standing.{said, standingNumber}
 use Rattle.odu0demap.proofs.is_same.Statement.{statement}
 use Rattle.odu0demap.proofs.is_same.Tie as tie
 
-word-number-requires : tie.Need-word-number-requires
-word-number-requires c κs = search needs
+standing-number-requires : tie.Need-standing-number-requires
+standing-number-requires c κs = search needs
 
 returns : tie.Need-returns
 returns c =
     let g = c .before .before .before .before .args in
-    let w = c .before .before .word-number in
-    simp (ne-eqb (wordNumber (said (g .standing) .name)) (g .before .word) (λ e. omega (arith, w .ensures, e)))
+    let w = c .before .before .standing-number in
+    simp (ne-eqb (standingNumber (said (g .standing) .name)) (g .before .word) (λ e. omega (arith, w .ensures, e)))
 
 found-count-requires : tie.Need-found-count-requires
 found-count-requires c κs = search needs
@@ -25,10 +24,10 @@ is-same-count-requires c κs = search needs
 returns-2 : tie.Need-returns-2
 returns-2 c =
     let g = c .before .before .before .before .before .before .args in
-    let w = c .before .before .before .before .word-number in
-    simp (eq-eqb (wordNumber (said (g .standing) .name)) (g .before .word) (omega (arith, w .ensures))) (rw (c .is-same-count .ensures, c .before .found-count .ensures))
+    let w = c .before .before .before .before .standing-number in
+    simp (eq-eqb (standingNumber (said (g .standing) .name)) (g .before .word) (omega (arith, w .ensures))) (rw (c .is-same-count .ensures, c .before .found-count .ensures))
 
 pub is-same-spec : {M : Type 1} → statement M
 is-same-spec =
     tie.close
-    (tie.spec word-number-requires returns found-count-requires is-same-count-requires returns-2)
+    (tie.spec standing-number-requires returns found-count-requires is-same-count-requires returns-2)
