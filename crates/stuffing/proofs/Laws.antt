@@ -1,35 +1,16 @@
--- What other crates cite: the stuffing places, and that a frame gives back what was written to it. Assumes nothing.
-use mathlib.Core.Path.{_≡_, sym, _∙_}
-use mathlib.Core.Bool.{true, true≢false}
+-- What other crates cite: that a frame gives back what was written to it, and what is left in a buffer where all fits. Assumes nothing.
+use mathlib.Core.Path.{_≡_, _∙_}
 use mathlib.Core.List.{List, _++_}
-use mathlib.Core.Logic.{_↔_, ⊎-elim}
-use Prim.Native.Nat.{ℕ, _+_, _*_, _/_, _≤_}
+use Prim.Native.Nat.{ℕ, _+_, _*_, _≤_}
 use native.Mathlib.Omega.{arith}
 use lib.ListN.{length, drop, length-append}
 use lib.Seq.{take-length}
 use borrow.Author.Tests.{eq-eqb, le-leb}
 use Rattle.settings.specs.Grid.{payloadBytes, frameBytes}
 use Rattle.stuffing.specs.declared.Control.{Control}
-use Rattle.stuffing.specs.Places.{carries, places}
 use Rattle.stuffing.specs.Frame.{frame, payload, clientBytes, controlOf, frameWritten, clientTaken}
-use Rattle.stuffing.proofs.Steps.{step, count-all, places-whole, length-first, chosen-placed}
+use Rattle.places.proofs.Steps.{count-all, length-first, chosen-placed}
 use Rattle.stuffing.proofs.Rows.{length-row, length-payload, payload-frame, second, row0, row1, row2}
-
--- "among the first n exactly the whole part of n × C / S"
-pub places-are : (C S : ℕ) → C ≤ S → (n : ℕ) → places C S n ≡ n * C / S
-places-are = places-whole
-
--- "exactly C such places"
-pub places-all : (C S : ℕ) → C ≤ S → places C S S ≡ C
-places-all C S le = places-are C S le S ∙ count-all C S le
-
--- a place carries a client byte exactly where the whole part steps
-pub carries-steps : (C S : ℕ) → C ≤ S → (n : ℕ) → (carries C S (n + 1) ≡ true) ↔ ((n + 1) * C / S ≡ n * C / S + 1)
-carries-steps C S le n =
-    ⊎-elim
-    (λ s. (λ _. s .count, λ _. s .place))
-    (λ s. (λ t. absurd (true≢false (sym t ∙ s .place)), λ e. absurd (omega (arith, s .count))))
-    (step C S le n)
 
 -- "4K + 8 bytes in all"
 pub length-frame : (k : ℕ) (client : List ℕ) (control : Control) (psi : ℕ) → length (frame k client control psi) ≡ frameBytes k

@@ -2,39 +2,41 @@
 use mathlib.Core.Path.{_≡_, refl, sym, ap, _∙_}
 use mathlib.Core.List.{List, [], _∷_, _++_, append-assoc, append-nil}
 use Prim.Native.Nat.{ℕ, suc, _+_, _-_, _*_, _/_, _≤_, _<_}
-use native.Mathlib.Nat.{zero-div, zero-mul}
+use native.Mathlib.Nat.{mul-le-mul-right, zero-div, zero-mul}
 use native.Mathlib.Omega.{arith}
-use lib.ListN.{length, getD, take, drop, set, length-append, length-take, length-drop, drop-of-length-le}
-use lib.Seq.{take-at, drop-at, drop-append-add, drop-drop, getD-append-add}
+use lib.ListN.{length, getD, take, drop, set, length-append, length-take, length-drop, take-append-drop}
+use lib.Seq.{take-at, drop-at, drop-append-add, drop-drop, drop-length, getD-append-add, length-take-le}
 use borrow.Rule.Slice.PartMut.{putMid}
 use Rattle.stuffing.specs.declared.Control.{Control}
-use Rattle.stuffing.specs.Places.{placed, span, chosen}
+use Rattle.places.specs.Places.{placed, span, chosen}
 use Rattle.stuffing.specs.Frame.{row, frame, columns, payload, clientBytes}
-use Rattle.stuffing.proofs.Copies.{drop-past}
-use Rattle.stuffing.proofs.Steps.{count-all, length-span, span-append, length-first, length-chosen, chosen-append}
-use Rattle.stuffing.proofs.Runs.{row-le}
+use Rattle.places.proofs.Copies.{drop-past, store-more}
+use Rattle.places.proofs.Steps.{count-all, length-span, span-append, length-first, length-chosen, chosen-append}
 
 -- a row is two bytes longer than its payload
 pub length-row : (k : ℕ) (client : List ℕ) (r a b : ℕ) → length (row k client r a b) ≡ k + 2
 unfolding row
 length-row k client r a b = omega (arith, length-span (placed (length client) (4 * k) client) (r * k) k)
 
--- two bytes stored in front, and the rest of a list lent and come back as `new`
-pub headed : (d new : List ℕ) (a b : ℕ) → 2 ≤ length d → putMid 2 (length (set (set d 0 a) 1 b) - 2) (set (set d 0 a) 1 b) new ≡ a ∷ b ∷ new
-headed [] new a b h = absurd (omega arith)
-headed (x ∷ []) new a b h = absurd (omega arith)
-headed (x ∷ y ∷ d) new a b h =
-    ap (λ (l : List ℕ). a ∷ b ∷ l) (rw (drop-of-length-le d {i = suc (suc (length d)) - 2} (omega arith), append-nil))
+-- two bytes stored at i and i + 1, and the k bytes after them lent and come back as `new`
+pub row-stored : (d new : List ℕ) (i k a b : ℕ) → i + 2 ≤ length d
+    → putMid (i + 2) (i + 2 + k - (i + 2)) (set (set d i a) (i + 1) b) new ≡ (take i d ++ (a ∷ b ∷ new)) ++ drop (i + (k + 2)) d
+row-stored d new i k a b h =
+    let p = take i d in
+    let l : length p ≡ i = length-take-le i d (omega arith) in
+    let pa = p ++ (a ∷ []) in
+    let la : length pa ≡ i + 1 = rw length-append (omega arith) in
+    let pb = pa ++ (b ∷ []) in
+    let lb : length pb ≡ i + 2 = rw length-append (omega arith) in
+    let i2 : i + 1 + 1 ≡ i + 2 = omega arith in
+    let sa : set d i a ≡ pa ++ drop (i + 1) d = ap (λ (x : List ℕ). set x i a) (sym (take-append-drop i d)) ∙ store-more p d i a l (omega arith) in
+    let sb : set (set d i a) (i + 1) b ≡ pb ++ drop (i + 2) d = rw (sa, store-more pa d (i + 1) b la (omega arith), i2) in
+    let n : i + 2 + (i + 2 + k - (i + 2)) ≡ i + (k + 2) = omega arith in
+    rw (sb, take-at pb (drop (i + 2) d) (i + 2) lb, drop-at pb (drop (i + 2) d) (i + 2) lb, drop-drop (i + 2 + k - (i + 2)) (i + 2) d, n) (simp append-assoc)
 
--- a list that begins with p, whose next part is lent and comes back as `new`, and one whose last part is
-put-next : (p d new : List ℕ) (a e : ℕ) → length p ≡ a → a ≤ e → putMid a (e - a) (p ++ drop a d) new ≡ (p ++ new) ++ drop e d
-put-next p d new a e l h =
-    let k : a + (e - a) ≡ e = omega arith in
-    rw (take-at p (drop a d) a l, drop-at p (drop a d) a l, drop-drop (e - a) a d, k, append-assoc)
-
-put-last : (p d new : List ℕ) (a : ℕ) → length p ≡ a → putMid a (length (p ++ drop a d) - a) (p ++ drop a d) new ≡ p ++ new
-put-last p d new a l =
-    rw (length-append, take-at p (drop a d) a l, drop-at p (drop a d) a l, drop-of-length-le (drop a d) {i = length p + length (drop a d) - a} (omega arith), append-nil)
+-- a row put behind p, where what comes after p is as in d
+put-next : (p d x y w : List ℕ) (n m : ℕ) → length p ≡ n → length w ≡ m → x ≡ p ++ drop n d → y ≡ (take n x ++ w) ++ drop (n + m) x → y ≡ (p ++ w) ++ drop (n + m) d
+put-next p d x y w n m l lw ex ey = ey ∙ rw (ex, take-at p (drop n d) n l, drop-past p d n m l)
 
 -- the row r, with its first two bytes a and b, stands at its place in a frame
 pub record Stands (k : ℕ) (client : List ℕ) (r a b : ℕ) (bytes : List ℕ) : Type 0 where
@@ -74,21 +76,27 @@ module _ (k : ℕ) (client : List ℕ) (control : Control) (psi : ℕ) where
   r3 = row k client 3 psi 0
 
   -- the four rows written one after the other over the bytes d are the frame
-  pub frame-written : (d : List ℕ)
+  pub frame-written : (d b0 b1 b2 b3 : List ℕ) → length d ≡ 4 * k + 8
       → let w = k + 2 in
-      let x = putMid (w + w) (w + w + w - (w + w)) (putMid w (w + w - w) (r0 ++ drop w d) r1) r2 in
-      putMid (w + w + w) (length x - (w + w + w)) x r3 ≡ frame k client control psi
+      b0 ≡ (take (0 * w) d ++ r0) ++ drop (0 * w + w) d
+      → b1 ≡ (take (1 * w) b0 ++ r1) ++ drop (1 * w + w) b0
+      → b2 ≡ (take (2 * w) b1 ++ r2) ++ drop (2 * w + w) b1
+      → b3 ≡ (take (3 * w) b2 ++ r3) ++ drop (3 * w + w) b2
+      → b3 ≡ frame k client control psi
   unfolding frame
-  frame-written d =
+  frame-written d b0 b1 b2 b3 l e0 e1 e2 e3 =
       let w = k + 2 in
-      let l0 = length-row k client 0 0 (control .jc1) in
-      rw (
-        put-next r0 d r1 w (w + w) l0 (omega arith),
-        put-next (r0 ++ r1) d r2 (w + w) (w + w + w) (simp (length-append, length-row) (omega arith)) (omega arith),
-        put-last ((r0 ++ r1) ++ r2) d r3 (w + w + w) (simp (length-append, length-row) (omega arith)),
-        append-assoc (r0 ++ r1) r2 r3,
-        append-assoc r0 r1 (r2 ++ r3),
-      )
+      let n0 : 0 * w ≡ 0 = omega arith in
+      let n1 : 0 * w + w ≡ 1 * w = omega arith in
+      let n2 : 1 * w + w ≡ 2 * w = omega arith in
+      let n3 : 2 * w + w ≡ 3 * w = omega arith in
+      let n4 : 3 * w + w ≡ length d = omega arith in
+      let z : d ≡ [] ++ drop (0 * w) d = rw n0 in
+      let h0 = rw n1 at (put-next [] d d b0 r0 (0 * w) w (omega arith) (length-row k client 0 0 (control .jc1)) z e0) in
+      let h1 = rw n2 at (put-next r0 d b0 b1 r1 (1 * w) w (simp length-row (omega arith)) (length-row k client 1 0 (control .jc2)) h0 e1) in
+      let h2 = rw n3 at (put-next (r0 ++ r1) d b1 b2 r2 (2 * w) w (simp (length-append, length-row) (omega arith)) (length-row k client 2 0 (control .jc3)) h1 e2) in
+      let h3 = rw n4 at (put-next ((r0 ++ r1) ++ r2) d b2 b3 r3 (3 * w) w (simp (length-append, length-row) (omega arith)) (length-row k client 3 psi 0) h2 e3) in
+      h3 ∙ rw (drop-length, append-nil, append-assoc (r0 ++ r1) r2 r3, append-assoc r0 r1 (r2 ++ r3))
 
   pub row0 : Stands k client 0 0 (control .jc1) (frame k client control psi)
   unfolding frame
@@ -119,9 +127,13 @@ module _ (k : ℕ) (client : List ℕ) (control : Control) (psi : ℕ) where
       rw (column row0, column row1, column row2, column row3)
       (sym (ap (span f 0) q ∙ rw (span-append f 0 k (k + (k + k)), n1, span-append f (1 * k) k (k + k), n2, span-append f (2 * k) k k, n3, z)))
 
+-- row r lies within a frame
+pub row-within : (r k : ℕ) → r < 4 → r * (k + 2) + (k + 2) ≤ 4 * k + 8
+row-within r k h = let l : r ≤ 3 = omega arith in omega (arith, mul-le-mul-right (k + 2) l)
+
 pub length-columns : (k r : ℕ) (bytes : List ℕ) → length bytes ≡ 4 * k + 8 → r < 4 → length (columns k bytes r) ≡ k
 unfolding columns
-length-columns k r bytes l h = simp (length-take, length-drop) (omega (arith, row-le r (k + 2) h))
+length-columns k r bytes l h = simp (length-take, length-drop) (omega (arith, row-within r k h))
 
 pub length-payload : (k : ℕ) (bytes : List ℕ) → length bytes ≡ 4 * k + 8 → length (payload k bytes) ≡ 4 * k
 unfolding payload
@@ -132,10 +144,10 @@ length-payload k bytes l =
     let l3 = length-columns k 3 bytes l (omega arith) in
     simp length-append (omega arith)
 
--- the part of a frame that is lent for a row
-pub as-column : (k r m a : ℕ) (bytes : List ℕ) → m ≡ k → a ≡ r * (k + 2) + 2 → take m (drop a bytes) ≡ columns k bytes r
+-- the part of a frame that is lent for row r
+pub as-column : (k r : ℕ) (bytes : List ℕ) → take (r * (k + 2) + 2 + k - (r * (k + 2) + 2)) (drop (r * (k + 2) + 2) bytes) ≡ columns k bytes r
 unfolding columns
-as-column k r m a bytes em ea = rw (em, ea)
+as-column k r bytes = let e : r * (k + 2) + 2 + k - (r * (k + 2) + 2) ≡ k = omega arith in rw e
 
 -- the client bytes of p copied behind those of q, where p follows q in the payload
 take-next : (C S : ℕ) → C ≤ S → (q p d x y : List ℕ) (n k : ℕ) → length q ≡ n → length p ≡ k

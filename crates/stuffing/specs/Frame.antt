@@ -7,7 +7,7 @@ use lib.Dec.{eqb, leb}
 use Rattle.bits.specs.Choice.{pick, both}
 use Rattle.settings.specs.Grid.{payloadBytes, frameBytes}
 use Rattle.stuffing.specs.declared.Control.{Control}
-use Rattle.stuffing.specs.Places.{placed, span, chosen}
+use Rattle.places.specs.Places.{placed, span, chosen}
 
 -- row r with its first two bytes a and b, and then its K payload bytes
 unfoldable pub row : ℕ → List ℕ → ℕ → ℕ → ℕ → List ℕ

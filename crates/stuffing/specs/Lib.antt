@@ -1,5 +1,2 @@
--- Where the client bytes stand in a frame, and the frame's layout. Assumes nothing.
-pub mod Places
+-- The frame's layout. Assumes nothing.
 pub mod Frame
-pub mod Copied
-pub mod Worked

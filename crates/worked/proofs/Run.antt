@@ -21,7 +21,7 @@ use Rattle.jc.specs.Pattern.{tableOf}
 use Rattle.jc.specs.Announce.{announced}
 use Rattle.jc.specs.Standing.{Finding, finding, READ, TRACKED, PAIRED, BADCHECK, WAITING}
 use Rattle.jc.specs.Follow.{inside, signed, tracked, candidate, paired, reading, foundBy}
-use Rattle.stuffing.specs.Places.{places, placed, span, chosen}
+use Rattle.places.specs.Places.{places, placed, span, chosen}
 use Rattle.stuffing.specs.Frame.{row, frame, columns, payload, clientBytes, controlOf}
 use Rattle.source.specs.declared.SourceState.{SourceState}
 use Rattle.source.specs.Source.{startNumber, newSource, sourceNumber, controlBytes, written, sourceState, sourceFrame}

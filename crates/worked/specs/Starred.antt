@@ -10,7 +10,7 @@ use Rattle.jc.specs.declared.Count.the-variants.{Known, Unknown}
 use Rattle.jc.specs.declared.Remembered.the-variants.{Nothing}
 use Rattle.jc.specs.Standing.{Finding, finding, READ, TRACKED, PAIRED, BADCHECK, WAITING, OUTSIDE}
 use Rattle.stuffing.specs.declared.Control.{Control}
-use Rattle.stuffing.specs.Places.{carries}
+use Rattle.places.specs.Places.{carries}
 use Rattle.rate.specs.Rate.{firstRemainder}
 use Rattle.rate.specs.Sum.{KeeperCall, countsFrom}
 use Rattle.source.specs.Source.{controlBytes}

@@ -1,55 +1,83 @@
 -- `stuffing::write_row` meets its contract. Assumes nothing.
-use mathlib.Core.Path.{_∙_}
-use Prim.Native.Nat.{_-_}
+use mathlib.Core.Path.{_≡_, _∙_}
+use Prim.Native.Nat.{_+_, _-_, _*_, _≤_}
 use native.Mathlib.Omega.{arith}
-use lib.ListN.{length, set, length-set, length-take, length-drop}
+use lib.ListN.{length, take, drop, set, length-set, length-take, length-drop}
 use borrow.Author.Needs.{needs}
 use borrow.Rule.Slice.PartMut.{same-len-mid}
+use Rattle.places.proofs.Laws.{fits-where, placed-fits}
 use Rattle.stuffing.specs.Frame.{row}
-use Rattle.stuffing.proofs.Rows.{headed}
+use Rattle.stuffing.proofs.Rows.{row-within, row-stored}
 use Rattle.stuffing.proofs.write_row.Statement.{statement}
 use Rattle.stuffing.proofs.write_row.Tie as tie
 
-slice-write-part : tie.Need-slice-write-part
-slice-write-part c = search needs
+add-start : tie.Need-add-start
+add-start c = omega arith
 
-slice-write-part-2 : tie.Need-slice-write-part-2
-slice-write-part-2 c = simp length-set (omega arith)
+mul-start : tie.Need-mul-start
+mul-start c = let g = c .before .before .args in omega (arith, row-within (g .r) (g .k) (c .before .before .pre .2))
 
-sub-place : tie.Need-sub-place
-sub-place c = simp length-set (omega arith)
+add-first : tie.Need-add-first
+add-first c = let g = c .before .before .args in omega (arith, row-within (g .r) (g .k) (c .before .before .pre .2))
 
-part-place-start : tie.Need-part-place-start
-part-place-start c = sub-place c
+add-end : tie.Need-add-end
+add-end c = let g = c .before .before .args in omega (arith, row-within (g .r) (g .k) (c .before .before .pre .2))
 
-part-place-end : tie.Need-part-place-end
-part-place-end c = search needs
+slice-write-buffer : tie.Need-slice-write-buffer
+slice-write-buffer c = let g = c .before .before .args in omega (arith, row-within (g .r) (g .k) (c .before .before .pre .2))
 
-place-requires : tie.Need-place-requires
-place-requires c κs = (simp (length-take, length-drop, length-set) (omega arith), omega arith, omega arith, omega arith)
+add-buffer : tie.Need-add-buffer
+add-buffer c = let g = c .before .before .args in omega (arith, row-within (g .r) (g .k) (c .before .before .pre .2))
+
+slice-write-buffer-2 : tie.Need-slice-write-buffer-2
+slice-write-buffer-2 c = let g = c .before .before .args in simp length-set (omega (arith, row-within (g .r) (g .k) (c .before .before .pre .2)))
+
+sub-place-row : tie.Need-sub-place-row
+sub-place-row c = omega arith
+
+part-place-row-start : tie.Need-part-place-row-start
+part-place-row-start c = omega arith
+
+part-place-row-end : tie.Need-part-place-row-end
+part-place-row-end c = let g = c .before .before .args in simp length-set (omega (arith, row-within (g .r) (g .k) (c .before .before .pre .2)))
+
+place-row-requires : tie.Need-place-row-requires
+place-row-requires c κs = search needs
 
 same-length : tie.Need-same-length
 same-length c =
     let g = c .before .before .before .before .before .before .args in
-    let d = set (set (g .part .now) 0 (g .a)) 1 (g .b) in
-    same-len-mid 2 (length d - 2) d (c .before .before .place .last .0) (c .before .before .place .kept .0) ∙ simp length-set
+    let i = g .r * (g .k + 2) in
+    let d = set (set (g .buffer .now) i (g .a)) (i + 1) (g .b) in
+    same-len-mid (i + 2) (i + 2 + g .k - (i + 2)) d (c .before .before .place-row .last .0) (c .before .before .place-row .kept .0) ∙ simp length-set
 
 returns : tie.Need-returns
 unfolding row
 returns c =
     let g = c .before .before .before .before .before .before .args in
-    let p = c .before .before .place in
-    headed (g .part .now) (p .last .0) (g .a) (g .b) (omega arith) ∙ rw (p .ensures)
+    let i = g .r * (g .k + 2) in
+    let d = set (set (g .buffer .now) i (g .a)) (i + 1) (g .b) in
+    let h = row-within (g .r) (g .k) (c .before .before .before .before .before .before .pre .2) in
+    let part = take (i + 2 + g .k - (i + 2)) (drop (i + 2) d) in
+    let l : length part ≡ g .k = simp (length-take, length-drop, length-set) (omega arith) in
+    let fits = fits-where (g .k) (g .r) (length (g .client .now)) (c .before .before .before .before .before .before .pre .3) (c .before .before .before .before .before .before .pre .2) (c .before .before .before .before .before .before .pre .1) in
+    row-stored (g .buffer .now) (c .before .before .place-row .last .0) i (g .k) (g .a) (g .b) (omega arith)
+    ∙ rw (c .before .before .place-row .ensures, placed-fits (g .k) (g .r) (g .client .now) part l fits)
 
 pub write-row-spec : {M : Type 1} → statement M
 write-row-spec =
     tie.close
     (tie.spec
-    slice-write-part
-    slice-write-part-2
-    sub-place
-    part-place-start
-    part-place-end
-    place-requires
+    add-start
+    mul-start
+    add-first
+    add-end
+    slice-write-buffer
+    add-buffer
+    slice-write-buffer-2
+    sub-place-row
+    part-place-row-start
+    part-place-row-end
+    place-row-requires
     same-length
     returns)

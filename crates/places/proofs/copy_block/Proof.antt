@@ -1,13 +1,13 @@
--- `stuffing::copy_block` meets its contract: first the array, then the destination is filled byte by byte. Assumes nothing.
+-- `places::copy_block` meets its contract: first the array, then the destination is filled byte by byte. Assumes nothing.
 use mathlib.Core.Path.{_≡_, refl}
 use Prim.Native.Nat.{_+_, _-_, _≤_}
 use native.Mathlib.Omega.{arith}
 use lib.ListN.{length, replicate, length-set}
 use borrow.Author.Needs.{needs}
-use Rattle.stuffing.specs.Copied.{copied}
-use Rattle.stuffing.proofs.Copies.{copied-first, copied-none, copied-more, copied-through}
-use Rattle.stuffing.proofs.copy_block.Statement.{statement}
-use Rattle.stuffing.proofs.copy_block.Tie as tie
+use Rattle.places.specs.Copied.{copied}
+use Rattle.places.proofs.Copies.{copied-first, copied-none, copied-more, copied-through}
+use Rattle.places.proofs.copy_block.Statement.{statement}
+use Rattle.places.proofs.copy_block.Tie as tie
 
 abbrev Inv-loop : tie.InvT-loop
 Inv-loop dst i src j block₀ k₀ block k = (k ≤ 16) × (length block ≡ 16) × (block ≡ copied block₀ 0 src j k)

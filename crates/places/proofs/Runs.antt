@@ -9,9 +9,9 @@ use native.Mathlib.Omega.{arith}
 use lib.Arith.{mod-mul}
 use lib.ListN.{length, take, drop, length-drop}
 use lib.Seq.{take-length, take-suc, drop-length, getD-drop}
-use Rattle.stuffing.specs.Copied.{copied}
-use Rattle.stuffing.specs.Places.{placed, span, chosen}
-use Rattle.stuffing.proofs.Steps.{Stuffing, Client, step-stuffing, step-client, count-le, count-all, placed-client}
+use Rattle.places.specs.Copied.{copied}
+use Rattle.places.specs.Places.{placed, span, chosen}
+use Rattle.places.proofs.Steps.{Stuffing, Client, step-stuffing, step-client, count-le, count-all, placed-client}
 
 -- k places after n that all carry client bytes; D is the number of stuffing bytes
 pub record Run (C S D n k : ℕ) : Type 0 where

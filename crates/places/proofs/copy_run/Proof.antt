@@ -1,13 +1,13 @@
--- `stuffing::copy_run` meets its contract. The loop has copied k bytes, in whole blocks. Assumes nothing.
+-- `places::copy_run` meets its contract. The loop has copied k bytes, in whole blocks. Assumes nothing.
 use mathlib.Core.Path.{_≡_, refl, _∙_}
 use Prim.Native.Nat.{_+_, _-_, _≤_}
 use native.Mathlib.Omega.{arith}
 use lib.ListN.{length}
 use borrow.Author.Needs.{needs}
-use Rattle.stuffing.specs.Copied.{copied}
-use Rattle.stuffing.proofs.Copies.{copied-none, copied-copied}
-use Rattle.stuffing.proofs.copy_run.Statement.{statement}
-use Rattle.stuffing.proofs.copy_run.Tie as tie
+use Rattle.places.specs.Copied.{copied}
+use Rattle.places.proofs.Copies.{copied-none, copied-copied}
+use Rattle.places.proofs.copy_run.Statement.{statement}
+use Rattle.places.proofs.copy_run.Tie as tie
 
 abbrev Inv-loop : tie.InvT-loop
 Inv-loop dst₀ i src j m k₀ dst k = (k ≤ m) × (length dst ≡ length dst₀) × (dst ≡ copied dst₀ i src j k)

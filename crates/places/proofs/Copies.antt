@@ -6,7 +6,7 @@ use native.Mathlib.Numerals.{add-one}
 use native.Mathlib.Omega.{arith}
 use lib.ListN.{length, getD, take, drop, set, length-take, length-drop}
 use lib.Seq.{take-all, drop-length, length-take-le, take-take, take-add, take-append-le, take-append-add, drop-append-add, drop-drop, drop-cons, getD-drop, set-at, take-at, append-snoc, paste-zero, paste-suc, length-paste, length-paste-head}
-use Rattle.stuffing.specs.Copied.{copied}
+use Rattle.places.specs.Copied.{copied}
 
 -- A list that begins with p and goes on with d after as many bytes: what stands further on, and one byte stored behind p.
 pub drop-past : (p d : List ℕ) (i k : ℕ) → length p ≡ i → drop (i + k) (p ++ drop i d) ≡ drop (i + k) d

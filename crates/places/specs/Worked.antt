@@ -3,7 +3,7 @@ use mathlib.Core.Path.{_≡_, refl}
 use mathlib.Core.Bool.{Bool, true, false}
 use mathlib.Core.List.{List, [], _∷_, map}
 use Prim.Native.Nat.{ℕ}
-use Rattle.stuffing.specs.Places.{carries}
+use Rattle.places.specs.Places.{carries}
 
 -- whether each of the payload bytes 1 to 8 carries a client byte
 abbrev eight : ℕ → List Bool

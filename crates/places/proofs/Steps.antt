@@ -14,7 +14,7 @@ use lib.ListN.{length, getD, take, length-append}
 use lib.Seq.{take-suc, length-take-le}
 use borrow.Author.Tests.{lt-ltb, le-ltb}
 use Rattle.bits.specs.Choice.{pick}
-use Rattle.stuffing.specs.Places.{carries, places, placed, span, chosen}
+use Rattle.places.specs.Places.{carries, places, placed, span, chosen}
 
 -- payload byte n + 1 is stuffing
 pub record Stuffing (C S n : ℕ) : Type 0 where

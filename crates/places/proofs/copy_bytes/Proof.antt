@@ -1,13 +1,13 @@
--- `stuffing::copy_bytes` meets its contract. Assumes nothing.
+-- `places::copy_bytes` meets its contract. Assumes nothing.
 use mathlib.Core.Path.{_≡_, refl}
 use Prim.Native.Nat.{_-_, _≤_}
 use native.Mathlib.Omega.{arith}
 use lib.ListN.{length, length-set}
 use borrow.Author.Needs.{needs}
-use Rattle.stuffing.specs.Copied.{copied}
-use Rattle.stuffing.proofs.Copies.{copied-none, copied-more}
-use Rattle.stuffing.proofs.copy_bytes.Statement.{statement}
-use Rattle.stuffing.proofs.copy_bytes.Tie as tie
+use Rattle.places.specs.Copied.{copied}
+use Rattle.places.proofs.Copies.{copied-none, copied-more}
+use Rattle.places.proofs.copy_bytes.Statement.{statement}
+use Rattle.places.proofs.copy_bytes.Tie as tie
 
 abbrev Inv-loop : tie.InvT-loop
 Inv-loop dst₀ i src j m k₀ dst k = (k ≤ m) × (dst ≡ copied dst₀ i src j k) × (length dst ≡ length dst₀)

@@ -1,0 +1,5 @@
+-- The arguments behind the placing's proofs, and in Laws what other crates cite. Assumes nothing.
+pub mod Copies
+pub mod Steps
+mod Runs
+pub mod Laws
