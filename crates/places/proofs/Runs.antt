@@ -3,9 +3,11 @@
 use mathlib.Core.Path.{_≡_, refl, sym, _∙_}
 use mathlib.Core.List.{List, [], _∷_, _++_, append-nil}
 use Prim.Native.Nat.{ℕ, zero, suc, _+_, _-_, _*_, _/_, _%_, _≤_, _<_}
-use native.Mathlib.Nat.{add-mul, add-zero, div-add-mod', mod-lt, mul-comm, mul-div-cancel, mul-div-mul-right, mul-le-mul-left, mul-le-mul-right, mul-mod-left, mul-right-comm, suc-mul, zero-mul}
+use native.Mathlib.Nat.{add-mul, add-zero, div-add-mod', div-le-self, mod-lt, mul-comm, mul-div-cancel, mul-div-mul-right, mul-le-mul-left, mul-le-mul-right, mul-mod-left, mul-right-comm, suc-mul, zero-mul}
 use native.Mathlib.Numerals.{add-one}
 use native.Mathlib.Omega.{arith}
+use mir.Syntax.{w64}
+use mir.Val.{Fits}
 use lib.Arith.{mod-mul}
 use lib.ListN.{length, take, drop, length-drop}
 use lib.Seq.{take-length, take-suc, drop-length, getD-drop}
@@ -102,13 +104,13 @@ pub record Head (from C S j m e i : ℕ) : Type 0 where
   pub count : j ≡ (from + i) * C / S
 
 -- at the start of row r
-pub head-row : (r k C : ℕ) → C < 4 * k → Head (r * k) C (4 * k) (r * C / 4) (r * C % 4 * k / (4 * k - C)) (r * C % 4 * k % (4 * k - C)) 0
-head-row r k C lt =
+pub head-row : (r k C j : ℕ) → j ≡ r * C / 4 → C < 4 * k → Head (r * k) C (4 * k) j (r * C % 4 * k / (4 * k - C)) (r * C % 4 * k % (4 * k - C)) 0
+head-row r k C j e lt =
     let z : r * k + 0 ≡ r * k = omega arith in
     record {
       low = mod-lt (r * C % 4 * k) (omega arith);
       rest = rw (z, row-rest r k C (omega arith)) (sym (div-add-mod' (r * C % 4 * k) (4 * k - C)));
-      count = rw (z, row-count r k C (omega arith));
+      count = rw (z, row-count r k C (omega arith)) e;
     }
 
 module _ {from C S j m e i : ℕ} (lt : C < S) (v : Head from C S j m e i) where
@@ -152,3 +154,27 @@ module _ {from C S j m e i : ℕ} (lt : C < S) (v : Head from C S j m e i) where
   head-long h =
       head-next (C / (S - C) + 1) (e + C % (S - C) - (S - C)) (omega (arith, v .low, mod-lt C {m = S - C} (omega arith)))
       (omega (arith, div-add-mod' C (S - C), add-mul (C / (S - C)) 1 (S - C)))
+
+-- What the loops reckon with fits 64 bits.
+module _ (k C : ℕ) (lt : C < 4 * k) (small : k < 4294967296) where
+  pub payload-word : Fits w64 (4 * k)
+  payload-word = omega arith
+
+  pub before-word : (r : ℕ) → r < 4 → Fits w64 (r * C)
+  before-word r row = omega (arith, row-le r C row)
+
+  pub first-word : (r : ℕ) → Fits w64 (r * C % 4 * k)
+  first-word r = omega (arith, row-le (r * C % 4) k (omega arith))
+
+  pub next-word : (n : ℕ) → n < k → Fits w64 (n + 1)
+  next-word n h = omega arith
+
+  pub longer-word : Fits w64 (C / (4 * k - C) + 1)
+  longer-word = omega (arith, div-le-self C (4 * k - C))
+
+  module _ {from j m e i : ℕ} (v : Head from C (4 * k) j m e i) where
+    pub run-word : i ≤ k → Fits w64 (i + m)
+    run-word h = omega (arith, head-bound lt v)
+
+    pub rest-word : Fits w64 (e + C % (4 * k - C))
+    rest-word = omega (arith, v .low, mod-lt C {m = 4 * k - C} (omega arith))

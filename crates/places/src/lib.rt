@@ -7,7 +7,7 @@ ghost use Rattle.places.specs.Row.{rowFits, rowBytes, rowClient, rowPlac
 ghost use Rattle.places.specs.Copied.{copied};
 
 // Writes the payload bytes of row r (from 0) of a frame whose rows have as many of them as the buffer is long. A row that is not one of
-// four, or client bytes that are more than the payload, leave the buffer as it was.
+// four, a buffer of 2^32 bytes or more, or client bytes that are more than the payload, leave the buffer as it was.
 pub fn place_row(part: &mut [u8], client: &[u8], r: usize)
     ensures { λ _. ⌜ now (part .exit) ≡ rowPlaced r (now (client .entry)) (now (part .entry)) ⌝ }
 {
@@ -23,7 +23,7 @@ pub fn place_row(part: &mut [u8], client: &[u8], r: usize)
 }
 
 // Copies the client bytes among the payload bytes of row r (from 0) to their place in the buffer, and leaves the rest of it. A row that is
-// not one of four, or a count above the payload or above the buffer's length, leave the buffer as it was.
+// not one of four, or has 2^32 bytes or more, or a count above the payload or above the buffer's length, leave the buffer as it was.
 pub fn take_row(part: &[u8], count: usize, r: usize, out: &mut [u8])
     ensures { λ _. ⌜ now (out .exit) ≡ rowTaken r count (now (part .entry)) (now (out .entry)) ⌝ }
 {

@@ -1,7 +1,7 @@
 -- The four rows of a frame: written one after the other into a buffer, and taken out one after the other. Assumes nothing.
 use mathlib.Core.Path.{_≡_, refl, sym, ap, _∙_}
 use mathlib.Core.List.{List, [], _∷_, _++_, append-assoc, append-nil}
-use Prim.Native.Nat.{ℕ, suc, _+_, _-_, _*_, _/_, _≤_, _<_}
+use Prim.Native.Nat.{ℕ, _+_, _-_, _*_, _/_, _≤_, _<_}
 use native.Mathlib.Nat.{mul-le-mul-right, zero-div, zero-mul}
 use native.Mathlib.Omega.{arith}
 use lib.ListN.{length, getD, take, drop, set, length-append, length-take, length-drop, take-append-drop}
@@ -35,8 +35,8 @@ row-stored d new i k a b h =
     rw (sb, take-at pb (drop (i + 2) d) (i + 2) lb, drop-at pb (drop (i + 2) d) (i + 2) lb, drop-drop (i + 2 + k - (i + 2)) (i + 2) d, n) (simp append-assoc)
 
 -- a row put behind p, where what comes after p is as in d
-put-next : (p d x y w : List ℕ) (n m : ℕ) → length p ≡ n → length w ≡ m → x ≡ p ++ drop n d → y ≡ (take n x ++ w) ++ drop (n + m) x → y ≡ (p ++ w) ++ drop (n + m) d
-put-next p d x y w n m l lw ex ey = ey ∙ rw (ex, take-at p (drop n d) n l, drop-past p d n m l)
+put-next : (p d x y w : List ℕ) (n m : ℕ) → length p ≡ n → x ≡ p ++ drop n d → y ≡ (take n x ++ w) ++ drop (n + m) x → y ≡ (p ++ w) ++ drop (n + m) d
+put-next p d x y w n m l ex ey = ey ∙ rw (ex, take-at p (drop n d) n l, drop-past p d n m l)
 
 -- the row r, with its first two bytes a and b, stands at its place in a frame
 pub record Stands (k : ℕ) (client : List ℕ) (r a b : ℕ) (bytes : List ℕ) : Type 0 where
@@ -92,10 +92,10 @@ module _ (k : ℕ) (client : List ℕ) (control : Control) (psi : ℕ) where
       let n3 : 2 * w + w ≡ 3 * w = omega arith in
       let n4 : 3 * w + w ≡ length d = omega arith in
       let z : d ≡ [] ++ drop (0 * w) d = rw n0 in
-      let h0 = rw n1 at (put-next [] d d b0 r0 (0 * w) w (omega arith) (length-row k client 0 0 (control .jc1)) z e0) in
-      let h1 = rw n2 at (put-next r0 d b0 b1 r1 (1 * w) w (simp length-row (omega arith)) (length-row k client 1 0 (control .jc2)) h0 e1) in
-      let h2 = rw n3 at (put-next (r0 ++ r1) d b1 b2 r2 (2 * w) w (simp (length-append, length-row) (omega arith)) (length-row k client 2 0 (control .jc3)) h1 e2) in
-      let h3 = rw n4 at (put-next ((r0 ++ r1) ++ r2) d b2 b3 r3 (3 * w) w (simp (length-append, length-row) (omega arith)) (length-row k client 3 psi 0) h2 e3) in
+      let h0 = rw n1 at (put-next [] d d b0 r0 (0 * w) w (omega arith) z e0) in
+      let h1 = rw n2 at (put-next r0 d b0 b1 r1 (1 * w) w (simp length-row (omega arith)) h0 e1) in
+      let h2 = rw n3 at (put-next (r0 ++ r1) d b1 b2 r2 (2 * w) w (simp (length-append, length-row) (omega arith)) h1 e2) in
+      let h3 = rw n4 at (put-next ((r0 ++ r1) ++ r2) d b2 b3 r3 (3 * w) w (simp (length-append, length-row) (omega arith)) h2 e3) in
       h3 ∙ rw (drop-length, append-nil, append-assoc (r0 ++ r1) r2 r3, append-assoc r0 r1 (r2 ++ r3))
 
   pub row0 : Stands k client 0 0 (control .jc1) (frame k client control psi)

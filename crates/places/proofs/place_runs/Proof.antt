@@ -1,8 +1,7 @@
 -- `places::place_runs` meets its contract. At the loop's head the first i bytes of the row are placed. Assumes nothing.
 use mathlib.Core.Path.{_≡_, refl, _∙_}
 use mathlib.Core.List.{List, _++_, append-nil}
-use Prim.Native.Nat.{ℕ, _+_, _-_, _*_, _/_, _%_, _≤_, _<_}
-use native.Mathlib.Nat.{div-le-self, mod-lt}
+use Prim.Native.Nat.{ℕ, _+_, _-_, _*_, _/_, _≤_, _<_}
 use native.Mathlib.Omega.{arith}
 use lib.ListN.{length, drop, set, length-set}
 use lib.Seq.{drop-length}
@@ -11,7 +10,7 @@ use Rattle.places.specs.Copied.{copied}
 use Rattle.places.specs.Places.{span, placed}
 use Rattle.places.proofs.Copies.{store-more, copied-behind, length-copied}
 use Rattle.places.proofs.Steps.{span-more, span-append, length-span, placed-stuffing}
-use Rattle.places.proofs.Runs.{span-run, row-le, row-fits, Head, head-row, head-bound, head-low, head-there, head-stuffing, head-short, head-long}
+use Rattle.places.proofs.Runs.{span-run, row-fits, Head, head-row, head-low, head-there, head-stuffing, head-short, head-long, payload-word, before-word, first-word, next-word, longer-word, run-word, rest-word}
 use Rattle.places.proofs.place_runs.Statement.{statement}
 use Rattle.places.proofs.place_runs.Tie as tie
 
@@ -82,7 +81,10 @@ abbrev μ-loop : tie.MeasureT-loop
 μ-loop part₀ client r k c d q step first used₀ run₀ rest₀ at₀ part used run rest at = length part₀ - at
 
 mul-d : tie.Need-mul-d Inv-loop μ-loop
-mul-d c = omega arith
+mul-d c =
+    let b = c .before .before in
+    let g = b .args in
+    payload-word (length (g .part .now)) (length (g .client .now)) (b .pre .0) (b .pre .2)
 
 sub-d : tie.Need-sub-d Inv-loop μ-loop
 sub-d c = omega arith
@@ -94,10 +96,16 @@ rem-step : tie.Need-rem-step Inv-loop μ-loop
 rem-step c = search needs
 
 mul-first : tie.Need-mul-first Inv-loop μ-loop
-mul-first c = let g = c .before .before .args in omega (arith, row-le (g .r) (length (g .client .now)) (omega arith))
+mul-first c =
+    let b = c .before .before in
+    let g = b .args in
+    before-word (length (g .part .now)) (length (g .client .now)) (b .pre .0) (b .pre .2) (g .r) (b .pre .1)
 
 mul-first-2 : tie.Need-mul-first-2 Inv-loop μ-loop
-mul-first-2 c = let g = c .before .before .args in omega (arith, row-le (g .r * length (g .client .now) % 4) (length (g .part .now)) (omega arith))
+mul-first-2 c =
+    let b = c .before .before in
+    let g = b .args in
+    first-word (length (g .part .now)) (length (g .client .now)) (b .pre .0) (b .pre .2) (g .r)
 
 mul-used : tie.Need-mul-used Inv-loop μ-loop
 mul-used c = mul-first c
@@ -112,14 +120,17 @@ loop-holds : tie.Need-loop-holds Inv-loop μ-loop
 unfolding span
 loop-holds c =
     let g = c .before .before .args in
-    record { within = omega arith; same = refl; head = head-row (g .r) (length (g .part .now)) (length (g .client .now)) (omega arith); bytes = refl }
+    record { within = omega arith; same = refl; head = head-row (g .r) (length (g .part .now)) (length (g .client .now)) _ refl (c .before .before .pre .0); bytes = refl }
 
 -- the row lies within the payload
 fits-at : (a : tie.At-loop Inv-loop μ-loop) → let g = a .before .before .before .args in g .r * length (g .part .now) + length (g .part .now) ≤ 4 * length (g .part .now)
 fits-at a = let b = a .before .before .before in row-fits (b .args .r) (length (b .args .part .now)) (b .pre .1)
 
 add-loop : tie.Need-add-loop Inv-loop μ-loop
-add-loop c = omega (arith, head-bound (c .before .before .before .pre .0) (c .loop .inv .head))
+add-loop c =
+    let b = c .before .before .before in
+    let g = b .args in
+    run-word (length (g .part .now)) (length (g .client .now)) (b .pre .0) (b .pre .2) (c .loop .inv .head) (c .loop .inv .within)
 
 copy-run-requires : tie.Need-copy-run-requires Inv-loop μ-loop
 copy-run-requires c κs =
@@ -127,7 +138,7 @@ copy-run-requires c κs =
     run-room (fits-at a) (a .before .before .before .pre .0) (a .loop .inv) (c .before .loop-test .taken)
 
 add-at : tie.Need-add-at Inv-loop μ-loop
-add-at c = omega arith
+add-at c = add-loop (c .before .before .before .before .before)
 
 add-used : tie.Need-add-used Inv-loop μ-loop
 add-used c =
@@ -135,16 +146,26 @@ add-used c =
     omega (arith, run-room (fits-at a) (a .before .before .before .pre .0) (a .loop .inv) (c .before .before .before .before .loop-test .taken) .1)
 
 slice-write-part : tie.Need-slice-write-part Inv-loop μ-loop
-slice-write-part c = omega (arith, c .before .before .copy-run .kept .0)
+slice-write-part c = rw (c .before .before .copy-run .kept .0 ∙ c .before .before .before .before .before .loop .inv .same) (c .before .before .before .before .loop-test .taken)
 
 add-at-2 : tie.Need-add-at-2 Inv-loop μ-loop
-add-at-2 c = omega arith
+add-at-2 c =
+    let b = c .before .before .before .before .before .before .before .before in
+    let g = b .args in
+    let l = c .before .before .before .before .before .loop in
+    next-word (length (g .part .now)) (length (g .client .now)) (b .pre .0) (b .pre .2) (l .at + l .run) (c .before .before .before .before .loop-test .taken)
 
 add-rest : tie.Need-add-rest Inv-loop μ-loop
-add-rest c = let g = c .before .before .before .before .before .before .before .before .args in omega (arith, mod-lt (length (g .client .now)) {m = 4 * length (g .part .now) - length (g .client .now)} (omega arith))
+add-rest c =
+    let b = c .before .before .before .before .before .before .before .before in
+    let g = b .args in
+    rest-word (length (g .part .now)) (length (g .client .now)) (b .pre .0) (b .pre .2) (c .before .before .before .before .before .loop .inv .head)
 
 add-run : tie.Need-add-run Inv-loop μ-loop
-add-run c = let g = c .before .before .before .before .before .before .before .before .before .args in omega (arith, div-le-self (length (g .client .now)) (4 * length (g .part .now) - length (g .client .now)))
+add-run c =
+    let b = c .before .before .before .before .before .before .before .before .before in
+    let g = b .args in
+    longer-word (length (g .part .now)) (length (g .client .now)) (b .pre .0) (b .pre .2)
 
 loop-less : tie.Need-loop-less Inv-loop μ-loop
 loop-less c = omega arith
@@ -164,7 +185,7 @@ loop-again-2 c =
     let a = c .before .before .before .before .before .before in
     let lt = a .before .before .before .pre .0 in
     rw (c .before .before .before .copy-run .ensures)
-    (turned (fits-at a) lt (a .loop .inv) (c .before .before .before .before .before .loop-test .taken) _ _ _ (omega arith) (head-short lt (a .loop .inv .head) (c .if1 .left)))
+    (turned (fits-at a) lt (a .loop .inv) (c .before .before .before .before .before .loop-test .taken) _ _ _ refl (head-short lt (a .loop .inv .head) (c .if1 .left)))
 
 sub-copy-run : tie.Need-sub-copy-run Inv-loop μ-loop
 sub-copy-run c = c .before .before .loop .inv .within

@@ -1,6 +1,4 @@
 -- `places::row_fits` meets its contract. Assumes nothing.
-use mathlib.Core.Path.{_∙_, sym}
-use Prim.Native.Nat.{_*_}
 use native.Mathlib.Omega.{arith}
 use borrow.Author.Tests.{lt-ltb, le-ltb}
 use Rattle.places.specs.Row.{rowFits}

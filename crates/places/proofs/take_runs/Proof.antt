@@ -2,8 +2,7 @@
 -- Assumes nothing.
 use mathlib.Core.Path.{_≡_, refl, sym, _∙_}
 use mathlib.Core.List.{List, _++_, append-nil, append-assoc}
-use Prim.Native.Nat.{ℕ, _+_, _-_, _*_, _/_, _%_, _≤_, _<_}
-use native.Mathlib.Nat.{div-le-self, mod-lt}
+use Prim.Native.Nat.{ℕ, _+_, _-_, _*_, _/_, _≤_, _<_}
 use native.Mathlib.Omega.{arith}
 use lib.ListN.{length, take, drop, length-append, length-take, length-drop, take-append-drop}
 use lib.Seq.{take-add, take-length, length-take-le}
@@ -12,7 +11,7 @@ use Rattle.places.specs.Copied.{copied}
 use Rattle.places.specs.Places.{chosen}
 use Rattle.places.proofs.Copies.{copied-behind, length-copied}
 use Rattle.places.proofs.Steps.{count-le, length-chosen, chosen-append, chosen-stuffing}
-use Rattle.places.proofs.Runs.{chosen-run, row-le, row-fits, row-count, Head, head-row, head-bound, head-low, head-run, head-there, head-stuffing, head-short, head-long}
+use Rattle.places.proofs.Runs.{chosen-run, row-fits, row-count, Head, head-row, head-low, head-run, head-there, head-stuffing, head-short, head-long, payload-word, before-word, first-word, next-word, longer-word, run-word, rest-word}
 use Rattle.places.proofs.take_runs.Statement.{statement}
 use Rattle.places.proofs.take_runs.Tie as tie
 
@@ -59,11 +58,11 @@ module _ {part out₀ : List ℕ} {from C S : ℕ} {out : List ℕ} {j m e i : �
     run-room : (j + m ≤ length out) × (i + m ≤ length part)
     run-room = (omega (arith, there m (omega arith) (omega arith), v .same), omega arith)
 
-    turned : (m′ e′ : ℕ) → Head from C S (j + m) m′ e′ (i + m + 1) → Taken part out₀ from C S (copied out j part i m) (j + m) m′ e′ (i + m + 1)
-    turned m′ e′ h = record {
+    turned : (x m′ e′ : ℕ) → x ≡ m′ → Head from C S (j + m) m′ e′ (i + m + 1) → Taken part out₀ from C S (copied out j part i m) (j + m) x e′ (i + m + 1)
+    turned x m′ e′ next h = record {
       within = omega arith;
       same = length-copied out j part i m (run-room .0) (run-room .1) ∙ v .same;
-      head = h;
+      head = rw next h;
       bytes = rw (chosen-stuffing C S from part (i + m) more (head-stuffing lt (v .head))) (taken m (omega arith) (omega arith));
     }
 
@@ -88,7 +87,10 @@ abbrev μ-loop : tie.MeasureT-loop
 μ-loop part count r out₀ k d q step first taken₀ len₀ over₀ seen₀ out taken len over seen = length part - seen
 
 mul-d : tie.Need-mul-d Inv-loop μ-loop
-mul-d c = omega arith
+mul-d c =
+    let b = c .before .before in
+    let g = b .args in
+    payload-word (length (g .part .now)) (g .count) (b .pre .0) (b .pre .3)
 
 sub-d : tie.Need-sub-d Inv-loop μ-loop
 sub-d c = omega arith
@@ -100,10 +102,16 @@ rem-step : tie.Need-rem-step Inv-loop μ-loop
 rem-step c = search needs
 
 mul-first : tie.Need-mul-first Inv-loop μ-loop
-mul-first c = let g = c .before .before .args in omega (arith, row-le (g .r) (g .count) (omega arith))
+mul-first c =
+    let b = c .before .before in
+    let g = b .args in
+    before-word (length (g .part .now)) (g .count) (b .pre .0) (b .pre .3) (g .r) (b .pre .2)
 
 mul-first-2 : tie.Need-mul-first-2 Inv-loop μ-loop
-mul-first-2 c = let g = c .before .before .args in omega (arith, row-le (g .r * g .count % 4) (length (g .part .now)) (omega arith))
+mul-first-2 c =
+    let b = c .before .before in
+    let g = b .args in
+    first-word (length (g .part .now)) (g .count) (b .pre .0) (b .pre .3) (g .r)
 
 mul-taken : tie.Need-mul-taken Inv-loop μ-loop
 mul-taken c = mul-first c
@@ -121,7 +129,7 @@ loop-holds c =
     record {
       within = omega arith;
       same = refl;
-      head = head-row (g .r) (length (g .part .now)) (g .count) (omega arith);
+      head = head-row (g .r) (length (g .part .now)) (g .count) _ (omega arith) (c .before .before .pre .0);
       bytes = rw (row-count (g .r) (length (g .part .now)) (g .count) (omega arith), append-nil (take (g .r * g .count / 4) (g .out .now)))
           (sym (take-append-drop (g .r * g .count / 4) (g .out .now)));
     }
@@ -131,7 +139,10 @@ fits-at : (a : tie.At-loop Inv-loop μ-loop) → let g = a .before .before .befo
 fits-at a = let b = a .before .before .before in row-fits (b .args .r) (length (b .args .part .now)) (b .pre .2)
 
 add-loop : tie.Need-add-loop Inv-loop μ-loop
-add-loop c = omega (arith, head-bound (c .before .before .before .pre .0) (c .loop .inv .head))
+add-loop c =
+    let b = c .before .before .before in
+    let g = b .args in
+    run-word (length (g .part .now)) (g .count) (b .pre .0) (b .pre .3) (c .loop .inv .head) (c .loop .inv .within)
 
 copy-run-requires : tie.Need-copy-run-requires Inv-loop μ-loop
 copy-run-requires c κs =
@@ -146,16 +157,26 @@ add-taken c =
     omega (arith, run-room (fits-at a) (p .1) (p .0) (a .loop .inv) (c .before .before .before .before .loop-test .taken) .0)
 
 add-seen : tie.Need-add-seen Inv-loop μ-loop
-add-seen c = omega arith
+add-seen c = add-loop (c .before .before .before .before .before)
 
 add-seen-2 : tie.Need-add-seen-2 Inv-loop μ-loop
-add-seen-2 c = omega arith
+add-seen-2 c =
+    let b = c .before .before .before .before .before .before .before .before in
+    let g = b .args in
+    let l = c .before .before .before .before .before .loop in
+    next-word (length (g .part .now)) (g .count) (b .pre .0) (b .pre .3) (l .seen + l .len) (c .before .before .before .before .loop-test .taken)
 
 add-over : tie.Need-add-over Inv-loop μ-loop
-add-over c = let g = c .before .before .before .before .before .before .before .before .args in omega (arith, mod-lt (g .count) {m = 4 * length (g .part .now) - g .count} (omega arith))
+add-over c =
+    let b = c .before .before .before .before .before .before .before .before in
+    let g = b .args in
+    rest-word (length (g .part .now)) (g .count) (b .pre .0) (b .pre .3) (c .before .before .before .before .before .loop .inv .head)
 
 add-len : tie.Need-add-len Inv-loop μ-loop
-add-len c = let g = c .before .before .before .before .before .before .before .before .before .args in omega (arith, div-le-self (g .count) (4 * length (g .part .now) - g .count))
+add-len c =
+    let b = c .before .before .before .before .before .before .before .before .before in
+    let g = b .args in
+    longer-word (length (g .part .now)) (g .count) (b .pre .0) (b .pre .3)
 
 loop-less : tie.Need-loop-less Inv-loop μ-loop
 loop-less c = omega arith
@@ -165,7 +186,7 @@ loop-again c =
     let a = c .before .before .before .before .before .before in
     let p = a .before .before .before .pre in
     rw (c .before .before .before .copy-run .ensures)
-    (turned (fits-at a) (p .1) (p .0) (a .loop .inv) (c .before .before .before .before .before .loop-test .taken) _ _ (head-long (p .0) (a .loop .inv .head) (c .if1 .taken)))
+    (turned (fits-at a) (p .1) (p .0) (a .loop .inv) (c .before .before .before .before .before .loop-test .taken) _ _ _ (omega arith) (head-long (p .0) (a .loop .inv .head) (c .if1 .taken)))
 
 loop-less-2 : tie.Need-loop-less-2 Inv-loop μ-loop
 loop-less-2 c = omega arith
@@ -175,7 +196,7 @@ loop-again-2 c =
     let a = c .before .before .before .before .before .before in
     let p = a .before .before .before .pre in
     rw (c .before .before .before .copy-run .ensures)
-    (turned (fits-at a) (p .1) (p .0) (a .loop .inv) (c .before .before .before .before .before .loop-test .taken) _ _ (head-short (p .0) (a .loop .inv .head) (c .if1 .left)))
+    (turned (fits-at a) (p .1) (p .0) (a .loop .inv) (c .before .before .before .before .before .loop-test .taken) _ _ _ (omega arith) (head-short (p .0) (a .loop .inv .head) (c .if1 .left)))
 
 sub-copy-run : tie.Need-sub-copy-run Inv-loop μ-loop
 sub-copy-run c = c .before .before .loop .inv .within

@@ -1,7 +1,6 @@
 -- `stuffing::extract` meets its contract. Assumes nothing.
 use mathlib.Core.Path.{_∙_}
 use native.Mathlib.Omega.{arith}
-use borrow.Author.Needs.{needs}
 use Rattle.stuffing.proofs.Rows.{four-taken}
 use Rattle.stuffing.proofs.extract.Statement.{statement}
 use Rattle.stuffing.proofs.extract.Tie as tie

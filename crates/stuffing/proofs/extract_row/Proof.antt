@@ -1,8 +1,5 @@
 -- `stuffing::extract_row` meets its contract. Assumes nothing.
-use mathlib.Core.Path.{_≡_}
-use Prim.Native.Nat.{_+_, _*_}
 use native.Mathlib.Omega.{arith}
-use lib.ListN.{length}
 use borrow.Author.Needs.{needs}
 use Rattle.places.proofs.Laws.{fits-where, taken-fits}
 use Rattle.stuffing.specs.Frame.{columns}
