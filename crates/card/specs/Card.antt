@@ -6,7 +6,7 @@ use lib.ListN.{length}
 use Rattle.bits.specs.Choice.{pick, sameList}
 use Rattle.settings.specs.declared.Settings.{Settings}
 use Rattle.settings.specs.Refusals.{Answer, accepted, refused}
-use Rattle.jc.specs.Standing.{Finding, BADCHECK}
+use Rattle.standings.specs.Standing.{Finding, BADCHECK}
 use Rattle.tally.specs.declared.Tally.{Tally}
 use Rattle.tally.specs.Tally.{added}
 use Rattle.sink.specs.declared.SinkState.{SinkState}

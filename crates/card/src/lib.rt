@@ -1,12 +1,12 @@
 // The sink's call with the card's tally.
-use jc::Standing;
 use settings::Settings;
 use sink::SinkAnswer;
 use sink::SinkResult;
 use sink::SinkState;
+use standings::Standing;
 use tally::Tally;
 ghost use mathlib.Core.Path.{_≡_};
-ghost use Rattle.jc.specs.Standing.{said};
+ghost use Rattle.standings.specs.Standing.{said};
 ghost use Rattle.sink.specs.Sink.{told};
 ghost use Rattle.card.specs.Card.{badFrames, tallyBy, CallPromise};
 

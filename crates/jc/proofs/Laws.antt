@@ -5,23 +5,20 @@ use mathlib.Core.Logic.{_⊎_, inl, inr}
 use mathlib.Core.Bool.{Bool, true, false, true≢false}
 use Prim.Native.Nat.{ℕ, _*_, _/_, _%_, _+_, _<_}
 use native.Mathlib.Omega.{arith}
-use lib.Dec.{eqb}
-use lib.ListN.{getD}
 use Rattle.bits.specs.Choice.{pick}
 use Rattle.settings.specs.declared.Settings.{Settings}
 use Rattle.settings.specs.Settings.{Fit, outside}
 use Rattle.settings.proofs.Laws.{inside-window}
-use Rattle.jc.specs.declared.Count.{Count}
-use Rattle.jc.specs.declared.Count.the-variants.{Known, Unknown}
+use Rattle.standings.specs.declared.Count.{Count}
+use Rattle.standings.specs.declared.Count.the-variants.{Known, Unknown}
+use Rattle.standings.specs.Standing.{Finding, finding, READ, TRACKED, OUTSIDE}
+use Rattle.standings.specs.Known.{inside}
 use Rattle.jc.specs.declared.Remembered.{Remembered}
 use Rattle.jc.specs.declared.Remembered.the-variants.{Word, Nothing}
-use Rattle.jc.specs.declared.Standing.{Standing}
-use Rattle.jc.specs.declared.Standing.the-variants.{Read, Tracked, Paired, BadCheck, Waiting, Outside}
 use Rattle.jc.specs.Word.{modulus, wordOf, countBits, equalIndicators, bytesOf, wordBy}
 use Rattle.jc.specs.Pattern.{Table, Rule}
 use Rattle.jc.specs.Announce.{announced}
-use Rattle.jc.specs.Standing.{Finding, finding, READ, TRACKED, PAIRED, BADCHECK, WAITING, OUTSIDE, said}
-use Rattle.jc.specs.Follow.{inside, signed, tracked, fromCount, fromWord, orElse, reading, windowedBy, windowed, foundBy}
+use Rattle.jc.specs.Follow.{signed, tracked, fromCount, fromWord, orElse, reading, windowedBy, windowed, foundBy}
 use Rattle.jc.specs.Claims.{ContinuesOne, TablesServe}
 use Rattle.jc.proofs.Tables.{standard-rule}
 use Rattle.jc.proofs.Pairing.{one-continued}
@@ -191,23 +188,3 @@ tables-serve =
       every = λ t rule. (λ s fit. follows-true-count t rule s fit, λ s fit. recovers-in-two t rule s fit, continues-one t rule);
       paper = standard-rule;
     }
-
--- the standing of a finding: no other standing is said so
-abbrev standingOf : Finding → Standing
-standingOf f = by (f .count) (getD (f .name) 0 0)
-  where
-    by : Count → ℕ → Standing
-    by (Known n) c = pick (eqb c 82) (Read n) (pick (eqb c 84) (Tracked n) (Paired n))
-    by Unknown c = pick (eqb c 66) BadCheck (pick (eqb c 87) Waiting Outside)
-
-standing-back : (x : Standing) → standingOf (said x) ≡ x
-standing-back (Read n) = refl
-standing-back (Tracked n) = refl
-standing-back (Paired n) = refl
-standing-back BadCheck = refl
-standing-back Waiting = refl
-standing-back Outside = refl
-
--- so a promise about what a standing says is one about the standing
-pub same-said : (x y : Standing) → said x ≡ said y → x ≡ y
-same-said x y e = sym (standing-back x) ∙ ap standingOf e ∙ standing-back y

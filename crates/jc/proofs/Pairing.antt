@@ -10,8 +10,8 @@ use lib.Bits.{bitXor, xor-comm, xor-self}
 use borrow.Author.Tests.{eqb-true, eq-eqb, ne-eqb}
 use Rattle.bits.specs.Choice.{pick}
 use Rattle.bits.specs.Xor.{xor-undo, xor-undo-l, xor-assoc}
-use Rattle.jc.specs.declared.Count.{Count}
-use Rattle.jc.specs.declared.Count.the-variants.{Known, Unknown}
+use Rattle.standings.specs.declared.Count.{Count}
+use Rattle.standings.specs.declared.Count.the-variants.{Known, Unknown}
 use Rattle.jc.specs.Word.{moved}
 use Rattle.jc.specs.Pattern.{Table, Rule, patternAt, changeAt}
 use Rattle.jc.specs.Follow.{tracked, candidate, orElse, paired}

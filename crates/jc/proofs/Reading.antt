@@ -5,13 +5,13 @@ use mathlib.Core.Logic.{_⊎_, inl, inr, ⊎-elim}
 use mathlib.Core.Bool.{Bool, true, false}
 use Prim.Native.Nat.{ℕ, _+_}
 use Rattle.bits.specs.Choice.{pick}
-use Rattle.jc.specs.declared.Count.{Count}
-use Rattle.jc.specs.declared.Count.the-variants.{Known, Unknown}
+use Rattle.standings.specs.declared.Count.{Count}
+use Rattle.standings.specs.declared.Count.the-variants.{Known, Unknown}
+use Rattle.standings.specs.Standing.{Finding, finding, READ, TRACKED}
 use Rattle.jc.specs.declared.Remembered.{Remembered}
 use Rattle.jc.specs.declared.Remembered.the-variants.{Word, Nothing}
 use Rattle.jc.specs.Word.{countBits, equalIndicators, sign}
 use Rattle.jc.specs.Pattern.{Table, Rule}
-use Rattle.jc.specs.Standing.{Finding, finding, READ, TRACKED}
 use Rattle.jc.specs.Follow.{tracked, candidate, orElse, paired, fromCount, fromWord, hunted, reading}
 use Rattle.jc.proofs.Pairing.{Possible, tracked-true, reached, paired-true, possible-leads}
 use Rattle.jc.proofs.Announced.{Plain, Changes, Announces}

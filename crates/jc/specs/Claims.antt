@@ -5,14 +5,14 @@ use Prim.Native.Nat.{ℕ, _+_, _<_}
 use Rattle.bits.specs.Choice.{pick}
 use Rattle.settings.specs.declared.Settings.{Settings}
 use Rattle.settings.specs.Settings.{Fit, outside}
-use Rattle.jc.specs.declared.Count.{Count}
-use Rattle.jc.specs.declared.Count.the-variants.{Known}
+use Rattle.standings.specs.declared.Count.{Count}
+use Rattle.standings.specs.declared.Count.the-variants.{Known}
+use Rattle.standings.specs.Standing.{finding, READ, TRACKED}
 use Rattle.jc.specs.declared.Remembered.{Remembered}
 use Rattle.jc.specs.declared.Remembered.the-variants.{Word}
 use Rattle.jc.specs.Word.{equalIndicators}
 use Rattle.jc.specs.Pattern.{Table, standard, Rule}
 use Rattle.jc.specs.Announce.{announced}
-use Rattle.jc.specs.Standing.{finding, READ, TRACKED}
 use Rattle.jc.specs.Follow.{signed, tracked, candidate, foundBy}
 
 -- a true count is followed to the next, READ where II = DI and otherwise TRACKED

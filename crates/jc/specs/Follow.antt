@@ -7,21 +7,17 @@ use lib.Bits.{bitXor}
 use Rattle.bits.specs.Choice.{pick}
 use Rattle.settings.specs.declared.Settings.{Settings}
 use Rattle.settings.specs.Settings.{outside}
-use Rattle.jc.specs.declared.Count.{Count}
-use Rattle.jc.specs.declared.Count.the-variants.{Known, Unknown}
+use Rattle.standings.specs.declared.Count.{Count}
+use Rattle.standings.specs.declared.Count.the-variants.{Known, Unknown}
+use Rattle.standings.specs.Standing.{Finding, finding, READ, TRACKED, PAIRED, WAITING, OUTSIDE, said}
+use Rattle.standings.specs.Known.{inside}
 use Rattle.jc.specs.declared.Remembered.{Remembered}
 use Rattle.jc.specs.declared.Remembered.the-variants.{Word, Nothing}
 use Rattle.jc.specs.declared.Followed.{Followed}
 use Rattle.jc.specs.Word.{moved, countBits, equalIndicators, sign}
 use Rattle.jc.specs.Pattern.{Table, tableOf, patternAt, changeAt}
-use Rattle.jc.specs.Standing.{Finding, finding, READ, TRACKED, PAIRED, WAITING, OUTSIDE, said}
 
--- "A state with a count outside the window counts as having none,
-unfoldable pub inside : Settings → Count → Count
-inside s (Known n) = pick (outside s n) Unknown (Known n)
-inside s Unknown = Unknown
-
--- and so does a remembered word with II = DI."
+-- "and so does a remembered word with II = DI."
 unfoldable pub signed : Remembered → Remembered
 signed (Word w) = pick (equalIndicators w) Nothing (Word w)
 signed Nothing = Nothing

@@ -2,7 +2,6 @@
 pub mod Word
 pub mod Pattern
 pub mod Announce
-pub mod Standing
 pub mod Follow
 pub mod Claims
 pub mod Worked

@@ -3,14 +3,15 @@ use mathlib.Core.Path.{_≡_, refl}
 use Prim.Native.Nat.{ℕ}
 use Rattle.settings.specs.declared.Settings.{Settings}
 use Rattle.settings.specs.Settings.{opu0, outside}
+use Rattle.standings.specs.declared.Count.the-variants.{Known, Unknown}
+use Rattle.standings.specs.Standing.{finding, READ, TRACKED, PAIRED, WAITING, OUTSIDE}
+use Rattle.standings.specs.Known.{inside}
 use Rattle.jc.specs.declared.WordBytes.{WordBytes}
-use Rattle.jc.specs.declared.Count.the-variants.{Known, Unknown}
 use Rattle.jc.specs.declared.Remembered.the-variants.{Word, Nothing}
 use Rattle.jc.specs.Word.{equalIndicators, bytesOf, wordBy}
 use Rattle.jc.specs.Pattern.{standard, tableOf}
 use Rattle.jc.specs.Announce.{announced}
-use Rattle.jc.specs.Standing.{finding, READ, TRACKED, PAIRED, WAITING, OUTSIDE}
-use Rattle.jc.specs.Follow.{inside, signed, tracked, candidate, paired, reading, foundBy, found}
+use Rattle.jc.specs.Follow.{signed, tracked, candidate, paired, reading, foundBy, found}
 
 abbrev bytes : ℕ → ℕ → WordBytes
 bytes a b = record { jc1 = a; jc2 = b }

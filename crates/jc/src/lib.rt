@@ -1,13 +1,15 @@
 // The control word of a frame: what a source announces by it, and how a sink's count follows it.
 use settings::Settings;
+use standings::Count;
+use standings::Standing;
 ghost use mathlib.Core.Path.{_≡_};
 ghost use Prim.Native.Nat.{_<_};
 ghost use lib.Bits.{bitXor};
 ghost use Rattle.jc.specs.Word.{moved, wordOf, countBits, equalIndicators, sign, bytesOf, wordBy};
 ghost use Rattle.jc.specs.Pattern.{tableOf, patternAt, changeAt};
 ghost use Rattle.jc.specs.Announce.{announced};
-ghost use Rattle.jc.specs.Standing.{said, standingNumber};
-ghost use Rattle.jc.specs.Follow.{inside, signed, tracked, candidate, paired, fromCount, fromWord, hunted, reading, windowed, Follows};
+ghost use Rattle.standings.specs.Standing.{said};
+ghost use Rattle.jc.specs.Follow.{signed, tracked, candidate, paired, fromCount, fromWord, hunted, reading, windowed, Follows};
 ghost use Rattle.jc.specs.Claims.{TablesServe};
 
 // The two bytes of a word before its check.
@@ -16,26 +18,10 @@ pub struct WordBytes {
     pub jc2: u8,
 }
 
-// A count, where it is known.
-pub enum Count {
-    Known(u32),
-    Unknown,
-}
-
 // The word of the frame before, as JC1 times 256 plus JC2, where one is remembered.
 pub enum Remembered {
     Word(u32),
     Nothing,
-}
-
-// The answer of a sink to a frame: the first three found a count.
-pub enum Standing {
-    Read(u32),
-    Tracked(u32),
-    Paired(u32),
-    BadCheck,
-    Waiting,
-    Outside,
 }
 
 // What a word leads to: the standing, the new count and the word to remember.
@@ -85,61 +71,20 @@ pub fn follow(settings: Settings, count: Count, earlier: Remembered, jc1: u8, jc
     ensures { λ r. ⌜ Follows settings count earlier (wordBy jc1 jc2) r ⌝ }
 {
     let word = join(jc1, jc2);
-    let known = known_count(settings, count);
+    let known = standings::known_count(settings, count);
     let remembered = signed_word(earlier);
     let standing = judge_window(settings, read_word(settings, known, remembered, word));
     Followed {
         standing: standing,
-        count: found_count(standing),
+        count: standings::found_count(standing),
         word: signed_word(Remembered::Word(word)),
     }
-}
-
-// The count, where it is known and inside the window.
-pub fn known_count(settings: Settings, count: Count) -> Count
-    ensures { λ r. ⌜ r ≡ inside settings count ⌝ }
-{
-    let Count::Known(n) = count else {
-        return Count::Unknown;
-    };
-    if settings::is_outside(settings, n) {
-        return Count::Unknown;
-    }
-    Count::Known(n)
 }
 
 // Every table of patterns that keeps the rule serves: a true count is followed, and two words in succession find the count from any state.
 pub fn tables_serve()
     ensures { λ _. ⌜ TablesServe ⌝ }
 {}
-
-// What a standing found.
-pub fn found_count(standing: Standing) -> Count
-    ensures { λ r. ⌜ r ≡ said standing .count ⌝ }
-{
-    match standing {
-        Standing::Read(n) => Count::Known(n),
-        Standing::Tracked(n) => Count::Known(n),
-        Standing::Paired(n) => Count::Known(n),
-        Standing::BadCheck => Count::Unknown,
-        Standing::Waiting => Count::Unknown,
-        Standing::Outside => Count::Unknown,
-    }
-}
-
-// The number of a standing, 1 to 6.
-pub fn standing_number(standing: Standing) -> u32
-    ensures { λ r. ⌜ r ≡ standingNumber (said standing .name) ⌝ }
-{
-    match standing {
-        Standing::Read(_) => 1,
-        Standing::Tracked(_) => 2,
-        Standing::Paired(_) => 3,
-        Standing::BadCheck => 4,
-        Standing::Waiting => 5,
-        Standing::Outside => 6,
-    }
-}
 
 // The remembered word, where there is one and its II and DI differ.
 fn signed_word(earlier: Remembered) -> Remembered
@@ -181,7 +126,7 @@ fn hunt(tracked: Count, paired: Count) -> Standing
 fn judge_window(settings: Settings, standing: Standing) -> Standing
     ensures { λ r. ⌜ said r ≡ windowed settings (said standing) ⌝ }
 {
-    let count = found_count(standing);
+    let count = standings::found_count(standing);
     let Count::Known(reached) = count else {
         return standing;
     };

@@ -5,9 +5,9 @@ use Prim.Native.Nat.{ℕ}
 use lib.Dec.{eqb}
 use Rattle.bits.specs.Choice.{pick}
 use Rattle.settings.specs.Refusals.{Answer, accepted, refused}
-use Rattle.jc.specs.declared.Count.{Count}
-use Rattle.jc.specs.declared.Standing.{Standing}
-use Rattle.jc.specs.Standing.{Finding, finding, READ, TRACKED, PAIRED, BADCHECK, WAITING, OUTSIDE, said}
+use Rattle.standings.specs.declared.Count.{Count}
+use Rattle.standings.specs.declared.Standing.{Standing}
+use Rattle.standings.specs.Standing.{Finding, finding, READ, TRACKED, PAIRED, BADCHECK, WAITING, OUTSIDE, said}
 use Rattle.tally.specs.declared.Tally.{Tally}
 use Rattle.sink.specs.declared.SinkState.{SinkState}
 use Rattle.odu0.specs.declared.SinkNumbers.{SinkNumbers}

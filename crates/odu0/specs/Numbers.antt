@@ -7,11 +7,11 @@ use lib.ListN.{length, getD}
 use Rattle.bits.specs.Choice.{pick}
 use Rattle.settings.specs.declared.Settings.{Settings}
 use Rattle.settings.specs.Refusals.{Answer, accepted, refused}
-use Rattle.jc.specs.declared.Count.{Count}
-use Rattle.jc.specs.declared.Count.the-variants.{Known, Unknown}
+use Rattle.standings.specs.declared.Count.{Count}
+use Rattle.standings.specs.declared.Count.the-variants.{Known, Unknown}
+use Rattle.standings.specs.Standing.{Finding, standingNumber}
 use Rattle.jc.specs.declared.Remembered.{Remembered}
 use Rattle.jc.specs.declared.Remembered.the-variants.{Word, Nothing}
-use Rattle.jc.specs.Standing.{Finding, standingNumber}
 use Rattle.rate.specs.Rate.{Kept, keeperCall}
 use Rattle.source.specs.declared.SourceState.{SourceState}
 use Rattle.source.specs.Source.{sourceNumber, sourceState}

@@ -1,5 +1,4 @@
 // The mapper for C and Rust: numbers and buffers in, numbers out. All meaning is in the crates below; here values are only converted.
-use jc::Count;
 use jc::Remembered;
 use rate::KeeperAnswer;
 use rate::KeeperResult;
@@ -10,6 +9,7 @@ use sink::SinkResult;
 use sink::SinkState;
 use source::SourceStart;
 use source::SourceState;
+use standings::Count;
 use tally::Tally;
 ghost use mathlib.Core.Path.{_≡_};
 ghost use lib.ListN.{length};
@@ -218,7 +218,7 @@ fn standing_of(answer: SinkAnswer) -> u32
     ensures { λ r. ⌜ r ≡ standingOf (told answer) ⌝ }
 {
     match answer {
-        SinkAnswer::Done(standing) => jc::standing_number(standing),
+        SinkAnswer::Done(standing) => standings::standing_number(standing),
         SinkAnswer::Refused(_) => 0,
     }
 }
@@ -228,7 +228,7 @@ fn found_of(answer: SinkAnswer) -> Count
     ensures { λ r. ⌜ r ≡ foundOf (told answer) ⌝ }
 {
     match answer {
-        SinkAnswer::Done(standing) => jc::found_count(standing),
+        SinkAnswer::Done(standing) => standings::found_count(standing),
         SinkAnswer::Refused(_) => Count::Unknown,
     }
 }

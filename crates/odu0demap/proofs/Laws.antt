@@ -9,8 +9,8 @@ use Rattle.io.specs.Counts.{Counts}
 use Rattle.settings.specs.declared.Refusal.{Refusal}
 use Rattle.settings.specs.Refusals.{Answer, accepted, refused, refusalNumber}
 use Rattle.settings.specs.Settings.{opu0}
-use Rattle.jc.specs.declared.Standing.{Standing}
-use Rattle.jc.specs.Standing.{Finding, said, standingNumber}
+use Rattle.standings.specs.declared.Standing.{Standing}
+use Rattle.standings.specs.Standing.{Finding, said, standingNumber}
 use Rattle.tally.specs.declared.Tally.{Tally}
 use Rattle.sink.specs.declared.SinkState.{SinkState}
 use Rattle.sink.specs.declared.SinkAnswer.the-variants.{Done, Refused}

@@ -5,14 +5,14 @@ use mathlib.Core.List.{List}
 use Prim.Native.Nat.{ℕ}
 use lib.Dec.{eqb}
 use lib.ListN.{length, take}
-use Rattle.bits.specs.Choice.{both}
 use Rattle.io.specs.Counts.{Counts}
+use Rattle.bits.specs.Choice.{both}
 use Rattle.settings.specs.Settings.{opu0}
+use Rattle.standings.specs.declared.Count.{Count}
+use Rattle.standings.specs.declared.Count.the-variants.{Known, Unknown}
+use Rattle.standings.specs.Standing.{Finding, said, standingNumber}
 use Rattle.stuffing.specs.declared.Control.{Control}
 use Rattle.stuffing.specs.Frame.{controlOf}
-use Rattle.jc.specs.declared.Count.{Count}
-use Rattle.jc.specs.declared.Count.the-variants.{Known, Unknown}
-use Rattle.jc.specs.Standing.{Finding, said, standingNumber}
 use Rattle.tally.specs.Tally.{added}
 use Rattle.sink.specs.Sink.{newSink, handed, standingAfter, stateAfter}
 use Rattle.card.specs.Card.{badFrames}

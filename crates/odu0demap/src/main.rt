@@ -1,18 +1,18 @@
 // Takes OPU0 frames on standard input and hands out their client bytes on standard output. On standard error it writes a line for the first
 // frame's standing and for each change of it, in its word or in the count found, and at the end the card's tally.
-use jc::Count;
-use jc::Standing;
 use libc::STDERR_FILENO;
 use libc::STDIN_FILENO;
 use libc::STDOUT_FILENO;
 use settings::Settings;
 use sink::SinkAnswer;
 use sink::SinkState;
+use standings::Count;
+use standings::Standing;
 use stream::Got;
 use tally::Tally;
 ghost use mathlib.Core.Path.{_≡_};
 ghost use lib.ListN.{length};
-ghost use Rattle.jc.specs.Standing.{said};
+ghost use Rattle.standings.specs.Standing.{said};
 ghost use Rattle.odu0demap.specs.Demapping.{newDemapper, sameCount, isSame, Goes, Takes};
 
 // The sink's state, the card's tally, and the number of the last standing's word, 0 before the first frame.
@@ -140,7 +140,7 @@ fn demap_frame(demapper: Demapper, frame: &[u8], out: &mut [u8]) -> Taken
         after: Demapper {
             state: after,
             tally: tally,
-            word: jc::standing_number(standing),
+            word: standings::standing_number(standing),
         },
     }
 }
@@ -161,7 +161,7 @@ fn show_change(number: u64, before: Demapper, standing: Standing) {
     }
     stream::say(b"frame ", number, b": ");
     show_word(standing);
-    let count = jc::found_count(standing);
+    let count = standings::found_count(standing);
     let Count::Known(n) = count else {
         io::write_all(STDERR_FILENO, b" -\n");
         return;
@@ -175,10 +175,10 @@ fn is_same(before: Demapper, standing: Standing) -> bool
 {
     let state = before.state;
     let kept = state.count;
-    if jc::standing_number(standing) != before.word {
+    if standings::standing_number(standing) != before.word {
         return false;
     }
-    is_same_count(jc::found_count(standing), kept)
+    is_same_count(standings::found_count(standing), kept)
 }
 
 // Whether two counts are the same, known or not.

@@ -14,15 +14,16 @@ use Rattle.crc8.proofs.Laws.{reads-as-itself}
 use Rattle.settings.specs.declared.Settings.{Settings}
 use Rattle.settings.specs.Refusals.{accepted}
 use Rattle.settings.specs.Settings.{Fit, outside}
-use Rattle.jc.specs.declared.Count.{Count}
-use Rattle.jc.specs.declared.Count.the-variants.{Known, Unknown}
+use Rattle.standings.specs.declared.Count.{Count}
+use Rattle.standings.specs.declared.Count.the-variants.{Known, Unknown}
+use Rattle.standings.specs.Standing.{Finding, finding, READ, TRACKED}
+use Rattle.standings.specs.Known.{inside}
 use Rattle.jc.specs.declared.Remembered.{Remembered}
 use Rattle.jc.specs.declared.Remembered.the-variants.{Word, Nothing}
 use Rattle.jc.specs.Word.{equalIndicators, wordBy}
 use Rattle.jc.specs.Pattern.{tableOf}
 use Rattle.jc.specs.Announce.{announced}
-use Rattle.jc.specs.Standing.{Finding, finding, READ, TRACKED}
-use Rattle.jc.specs.Follow.{inside, signed, found}
+use Rattle.jc.specs.Follow.{signed, found}
 use Rattle.jc.proofs.Tables.{rule-of}
 use Rattle.jc.proofs.Reading.{NoneOr}
 use Rattle.jc.proofs.Laws.{inside-known, Safe, safe-none, follows-true-count, recovers-in-two, stays-safe}

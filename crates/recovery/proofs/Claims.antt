@@ -7,8 +7,8 @@ use native.Mathlib.Omega.{arith}
 use lib.ListN.{length, drop, length-drop}
 use Rattle.crc8.specs.Check.{budget}
 use Rattle.settings.specs.declared.Settings.{Settings}
-use Rattle.jc.specs.declared.Count.{Count}
-use Rattle.jc.specs.declared.Count.the-variants.{Known, Unknown}
+use Rattle.standings.specs.declared.Count.{Count}
+use Rattle.standings.specs.declared.Count.the-variants.{Known, Unknown}
 use Rattle.jc.proofs.Reading.{NoneOr}
 use Rattle.source.specs.declared.SourceState.{SourceState}
 use Rattle.sink.specs.declared.SinkState.{SinkState}

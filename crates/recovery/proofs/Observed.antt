@@ -7,11 +7,11 @@ use lib.Dec.{eqb}
 use lib.ListN.{length}
 use Rattle.bits.specs.Choice.{pick}
 use Rattle.settings.specs.Refusals.{verdictNumber, accepted, refused, accepts}
-use Rattle.jc.specs.Standing.{Finding}
+use Rattle.standings.specs.Standing.{Finding}
 use Rattle.stuffing.specs.Frame.{controlOf}
-use Rattle.tally.specs.declared.Tally.{Tally}
 use Rattle.source.specs.declared.SourceState.{SourceState}
 use Rattle.source.specs.Source.{SourcePromise}
+use Rattle.tally.specs.declared.Tally.{Tally}
 use Rattle.sink.specs.declared.SinkState.{SinkState}
 use Rattle.sink.specs.Sink.{told, sinkNumber, sinkAnswer, standingAfter}
 use Rattle.card.specs.Card.{tallyAfter, CallPromise}

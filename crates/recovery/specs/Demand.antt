@@ -9,9 +9,9 @@ use Rattle.bits.specs.Choice.{pick}
 use Rattle.crc8.specs.Check.{wrongBits, budget}
 use Rattle.settings.specs.declared.Settings.{Settings}
 use Rattle.settings.specs.Refusals.{accepted}
-use Rattle.jc.specs.declared.Count.the-variants.{Known, Unknown}
+use Rattle.standings.specs.declared.Count.the-variants.{Known, Unknown}
+use Rattle.standings.specs.Standing.{finding, READ, TRACKED}
 use Rattle.jc.specs.Word.{equalIndicators, wordBy}
-use Rattle.jc.specs.Standing.{finding, READ, TRACKED}
 use Rattle.stuffing.specs.declared.Control.{Control}
 use Rattle.stuffing.specs.Frame.{controlOf}
 use Rattle.source.specs.declared.SourceState.{SourceState}

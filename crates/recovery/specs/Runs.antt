@@ -10,7 +10,7 @@ use lib.ListN.{length}
 use Rattle.bits.specs.Choice.{pick}
 use Rattle.settings.specs.declared.Settings.{Settings}
 use Rattle.settings.specs.Refusals.{Answer}
-use Rattle.jc.specs.Standing.{Finding}
+use Rattle.standings.specs.Standing.{Finding}
 use Rattle.source.specs.declared.SourceState.{SourceState}
 use Rattle.source.specs.Source.{sourceNumber, sourceState, sourceFrame}
 use Rattle.sink.specs.declared.SinkState.{SinkState}

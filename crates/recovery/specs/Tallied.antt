@@ -4,7 +4,7 @@ use mathlib.Core.List.{List, [], _∷_}
 use Prim.Native.Nat.{ℕ, _+_}
 use lib.ListN.{length}
 use Rattle.settings.specs.Refusals.{Answer, accepted, refused}
-use Rattle.jc.specs.Standing.{Finding}
+use Rattle.standings.specs.Standing.{Finding}
 use Rattle.tally.specs.declared.Tally.{Tally}
 use Rattle.tally.specs.Tally.{added, Of32Bits}
 use Rattle.sink.specs.declared.SinkState.{SinkState}

@@ -14,13 +14,14 @@ use Rattle.settings.specs.Grid.{payloadBytes, frameBytes}
 use Rattle.settings.specs.Refusals.{ascending, accepted, refused}
 use Rattle.settings.specs.Settings.{settingsReasons, Fit, outside}
 use Rattle.settings.proofs.Laws.{none-applies, all-passed, settings-fit, inside-window}
-use Rattle.jc.specs.declared.Count.{Count}
-use Rattle.jc.specs.declared.Count.the-variants.{Known, Unknown}
+use Rattle.standings.specs.declared.Count.{Count}
+use Rattle.standings.specs.declared.Count.the-variants.{Known, Unknown}
+use Rattle.standings.specs.Standing.{finding, BADCHECK}
+use Rattle.standings.specs.Known.{inside}
 use Rattle.jc.specs.declared.Remembered.{Remembered}
 use Rattle.jc.specs.declared.Remembered.the-variants.{Word, Nothing}
 use Rattle.jc.specs.Word.{wordBy}
-use Rattle.jc.specs.Standing.{finding, BADCHECK}
-use Rattle.jc.specs.Follow.{inside, signed, found}
+use Rattle.jc.specs.Follow.{signed, found}
 use Rattle.stuffing.specs.declared.Control.{Control}
 use Rattle.stuffing.specs.Frame.{controlOf, clientBytes, clientTaken}
 use Rattle.stuffing.proofs.Laws.{length-client, taken-fits}

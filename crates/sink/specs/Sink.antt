@@ -12,13 +12,14 @@ use Rattle.settings.specs.declared.Settings.{Settings}
 use Rattle.settings.specs.Grid.{frameBytes}
 use Rattle.settings.specs.Refusals.{refusalNumber, Reason, reason, lowest, Answer, accepted, refused, answerBy}
 use Rattle.settings.specs.Settings.{settingsReasons}
-use Rattle.jc.specs.declared.Count.{Count}
-use Rattle.jc.specs.declared.Count.the-variants.{Known, Unknown}
+use Rattle.standings.specs.declared.Count.{Count}
+use Rattle.standings.specs.declared.Count.the-variants.{Known, Unknown}
+use Rattle.standings.specs.Standing.{Finding, finding, BADCHECK, said}
+use Rattle.standings.specs.Known.{inside}
 use Rattle.jc.specs.declared.Remembered.the-variants.{Word, Nothing}
 use Rattle.jc.specs.declared.Followed.{Followed}
 use Rattle.jc.specs.Word.{wordBy}
-use Rattle.jc.specs.Standing.{Finding, finding, BADCHECK, said}
-use Rattle.jc.specs.Follow.{inside, signed, found}
+use Rattle.jc.specs.Follow.{signed, found}
 use Rattle.stuffing.specs.declared.Control.{Control}
 use Rattle.stuffing.specs.Frame.{clientBytes, controlOf}
 use Rattle.sink.specs.declared.SinkState.{SinkState}

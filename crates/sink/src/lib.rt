@@ -1,11 +1,11 @@
 // The sink: it hands out the client bytes of a frame at the places of the count that it knew before, and follows the control word.
-use jc::Count;
 use jc::Followed;
 use jc::Remembered;
-use jc::Standing;
 use settings::Refusal;
 use settings::Settings;
 use settings::Verdict;
+use standings::Count;
+use standings::Standing;
 use stuffing::Control;
 ghost use mathlib.Core.Path.{_≡_};
 ghost use lib.ListN.{length};
@@ -83,7 +83,7 @@ fn hand_out(settings: Settings, state: SinkState, frame: &[u8], out: &mut [u8]) 
     ensures { λ r. ⌜ HandsOut (handed settings state (now (frame .entry))) (now (out .entry)) r (now (out .exit)) ⌝ }
 {
     let count = state.count;
-    let known = jc::known_count(settings, count);
+    let known = standings::known_count(settings, count);
     let Count::Known(n) = known else {
         return 0;
     };

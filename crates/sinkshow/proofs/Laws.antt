@@ -10,13 +10,13 @@ use lib.ListN.{length, take, length-append}
 use lib.Seq.{take-length, take-at, length-take-le}
 use borrow.Author.Tests.{lt-ltb, le-ltb}
 use borrow.Rule.Slice.PartMut.{midOf, postOf, putMid, same-len-mid}
-use Rattle.bits.specs.Choice.{pick, pick-elim}
 use Rattle.io.specs.Digits.{glyph, digits, Fewest}
-use Rattle.jc.specs.declared.Count.{Count}
-use Rattle.jc.specs.declared.Count.the-variants.{Known, Unknown}
-use Rattle.jc.specs.declared.Standing.{Standing}
-use Rattle.jc.specs.declared.Standing.the-variants.{Read, Tracked, Paired, BadCheck, Waiting, Outside}
-use Rattle.jc.specs.Standing.{said}
+use Rattle.bits.specs.Choice.{pick, pick-elim}
+use Rattle.standings.specs.declared.Count.{Count}
+use Rattle.standings.specs.declared.Count.the-variants.{Known, Unknown}
+use Rattle.standings.specs.declared.Standing.{Standing}
+use Rattle.standings.specs.declared.Standing.the-variants.{Read, Tracked, Paired, BadCheck, Waiting, Outside}
+use Rattle.standings.specs.Standing.{said}
 use Rattle.sinkshow.specs.Lines.{lastDigits, decimal, countText, numbersText}
 use Rattle.sinkshow.specs.Show.{Puts}
 

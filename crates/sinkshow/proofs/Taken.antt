@@ -6,8 +6,8 @@ use native.Mathlib.Omega.{arith}
 use lib.ListN.{length}
 use Rattle.settings.specs.declared.Refusal.{Refusal}
 use Rattle.settings.specs.Refusals.{accepted, refused, refusalNumber}
-use Rattle.jc.specs.declared.Standing.{Standing}
-use Rattle.jc.specs.Standing.{said}
+use Rattle.standings.specs.declared.Standing.{Standing}
+use Rattle.standings.specs.Standing.{said}
 use Rattle.stuffing.specs.Frame.{controlOf}
 use Rattle.sink.specs.declared.SinkState.{SinkState}
 use Rattle.sink.specs.declared.SinkAnswer.the-variants.{Done, Refused}

@@ -2,11 +2,11 @@
 use mathlib.Core.List.{List, [], _∷_, _++_}
 use Prim.Native.Nat.{ℕ, zero, suc, _/_, _%_}
 use lib.Dec.{ltb}
-use Rattle.bits.specs.Choice.{pick}
 use Rattle.io.specs.Digits.{glyph}
-use Rattle.jc.specs.declared.Count.{Count}
-use Rattle.jc.specs.declared.Count.the-variants.{Known, Unknown}
-use Rattle.jc.specs.Standing.{Finding}
+use Rattle.bits.specs.Choice.{pick}
+use Rattle.standings.specs.declared.Count.{Count}
+use Rattle.standings.specs.declared.Count.the-variants.{Known, Unknown}
+use Rattle.standings.specs.Standing.{Finding}
 
 -- the last decimal digits of n, at most so many: those of its whole tenth, where n is 10 or more, and the last one
 unfoldable pub lastDigits : ℕ → ℕ → List ℕ

@@ -1,17 +1,17 @@
 // Shows what a new sink makes of the 16-byte frames on standard input (K = 2, window 0 to 8): a line for each frame, and a last line where
 // the input ends within one. Every byte of a line is promised by the functions that make it.
-use jc::Count;
-use jc::Standing;
 use libc::STDIN_FILENO;
 use libc::STDOUT_FILENO;
 use settings::Settings;
 use sink::SinkAnswer;
 use sink::SinkState;
+use standings::Count;
+use standings::Standing;
 use stream::Got;
 ghost use mathlib.Core.Path.{_≡_};
 ghost use Prim.Native.Nat.{_+_, _≤_};
 ghost use lib.ListN.{length};
-ghost use Rattle.jc.specs.Standing.{said};
+ghost use Rattle.standings.specs.Standing.{said};
 ghost use Rattle.sinkshow.specs.Lines.{decimal, countText, numbersText, standingText, restLine};
 ghost use Rattle.sinkshow.specs.Show.{Puts, Shows};
 
@@ -167,7 +167,7 @@ fn put_count(line: &mut [u8], at: usize, standing: Standing) -> usize
     requires { ⌜ at + 20 ≤ length (now line) ⌝ }
     ensures { λ r. ⌜ Puts (now (line .entry)) at (countText (said standing .count)) r (now (line .exit)) ⌝ }
 {
-    let count = jc::found_count(standing);
+    let count = standings::found_count(standing);
     let Count::Known(n) = count else {
         return put(line, at, b"-");
     };

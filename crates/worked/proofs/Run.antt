@@ -14,13 +14,14 @@ use Rattle.crc8.specs.Check.{remainder, passes, word, budget}
 use Rattle.settings.specs.declared.Settings.{Settings}
 use Rattle.settings.specs.Refusals.{Answer, accepted, refused}
 use Rattle.settings.specs.Settings.{outside}
-use Rattle.jc.specs.declared.Count.the-variants.{Known, Unknown}
+use Rattle.standings.specs.declared.Count.the-variants.{Known, Unknown}
+use Rattle.standings.specs.Standing.{Finding, finding, READ, TRACKED, PAIRED, BADCHECK, WAITING}
+use Rattle.standings.specs.Known.{inside}
 use Rattle.jc.specs.declared.Remembered.the-variants.{Word, Nothing}
 use Rattle.jc.specs.Word.{equalIndicators}
 use Rattle.jc.specs.Pattern.{tableOf}
 use Rattle.jc.specs.Announce.{announced}
-use Rattle.jc.specs.Standing.{Finding, finding, READ, TRACKED, PAIRED, BADCHECK, WAITING}
-use Rattle.jc.specs.Follow.{inside, signed, tracked, candidate, paired, reading, foundBy}
+use Rattle.jc.specs.Follow.{signed, tracked, candidate, paired, reading, foundBy}
 use Rattle.places.specs.Places.{places, placed, span, chosen}
 use Rattle.stuffing.specs.Frame.{row, frame, columns, payload, clientBytes, controlOf}
 use Rattle.source.specs.declared.SourceState.{SourceState}

@@ -4,10 +4,11 @@ use Rattle.bits.specs.Bits.{bits}
 use Rattle.crc8.specs.Division.{reduce, divide}
 use Rattle.crc8.specs.Check.{remainder, passes}
 use Rattle.settings.specs.Settings.{outside}
+use Rattle.standings.specs.Known.{inside}
 use Rattle.jc.specs.Word.{equalIndicators}
 use Rattle.jc.specs.Pattern.{tableOf}
 use Rattle.jc.specs.Announce.{announced}
-use Rattle.jc.specs.Follow.{inside, signed, tracked, candidate, paired, reading, foundBy}
+use Rattle.jc.specs.Follow.{signed, tracked, candidate, paired, reading, foundBy}
 use Rattle.rate.specs.Rate.{keeperNumber, keeperCall, firstRemainder}
 use Rattle.rate.specs.Sum.{countsFrom}
 use Rattle.source.specs.Source.{controlBytes}

@@ -4,8 +4,8 @@ use mathlib.Core.List.{List}
 use Prim.Native.Nat.{ℕ, _+_, _-_, _≤_}
 use Rattle.crc8.specs.Check.{budget}
 use Rattle.settings.specs.declared.Settings.{Settings}
+use Rattle.standings.specs.declared.Count.the-variants.{Known}
 use Rattle.source.specs.declared.SourceState.{SourceState}
-use Rattle.jc.specs.declared.Count.the-variants.{Known}
 use Rattle.sink.specs.declared.SinkState.{SinkState}
 use Rattle.sink.specs.Sink.{newSink}
 use Rattle.recovery.specs.Runs.{Nth, SourceCall, SinkCall, SourceStep, SinkStep, sourceSteps, sinkSteps, sinkEnd, countOf}

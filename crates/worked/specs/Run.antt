@@ -9,9 +9,9 @@ use Rattle.bits.specs.Choice.{pick}
 use Rattle.crc8.specs.Check.{budget}
 use Rattle.settings.specs.declared.Settings.{Settings}
 use Rattle.settings.specs.Refusals.{Answer, accepted}
-use Rattle.jc.specs.declared.Count.the-variants.{Known, Unknown}
+use Rattle.standings.specs.declared.Count.the-variants.{Known, Unknown}
+use Rattle.standings.specs.Standing.{Finding, finding, READ, TRACKED, PAIRED, BADCHECK, WAITING}
 use Rattle.jc.specs.declared.Remembered.the-variants.{Word}
-use Rattle.jc.specs.Standing.{Finding, finding, READ, TRACKED, PAIRED, BADCHECK, WAITING}
 use Rattle.source.specs.declared.SourceState.{SourceState}
 use Rattle.sink.specs.declared.SinkState.{SinkState}
 use Rattle.sink.specs.Sink.{newSink}

@@ -6,11 +6,11 @@ use Prim.Native.Nat.{ℕ, zero, suc}
 use Rattle.bits.specs.Choice.{pick}
 use Rattle.settings.specs.declared.Settings.{Settings}
 use Rattle.settings.specs.Settings.{opu0}
-use Rattle.jc.specs.declared.Count.the-variants.{Known, Unknown}
+use Rattle.standings.specs.declared.Count.the-variants.{Known, Unknown}
+use Rattle.standings.specs.Standing.{Finding, finding, READ, TRACKED, PAIRED, BADCHECK, WAITING, OUTSIDE}
 use Rattle.jc.specs.declared.Remembered.the-variants.{Nothing}
-use Rattle.jc.specs.Standing.{Finding, finding, READ, TRACKED, PAIRED, BADCHECK, WAITING, OUTSIDE}
-use Rattle.stuffing.specs.declared.Control.{Control}
 use Rattle.places.specs.Places.{carries}
+use Rattle.stuffing.specs.declared.Control.{Control}
 use Rattle.rate.specs.Rate.{firstRemainder}
 use Rattle.rate.specs.Sum.{KeeperCall, countsFrom}
 use Rattle.source.specs.Source.{controlBytes}

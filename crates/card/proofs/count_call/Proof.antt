@@ -3,7 +3,7 @@ use mathlib.Core.Path.{_∙_, ap}
 use Prim.Native.Nat.{ℕ}
 use borrow.Author.Needs.{needs}
 use Rattle.settings.specs.Refusals.{Answer}
-use Rattle.jc.specs.Standing.{Finding}
+use Rattle.standings.specs.Standing.{Finding}
 use Rattle.sink.specs.Sink.{told, sinkAnswer}
 use Rattle.card.specs.Card.{tallyBy, tallyAfter}
 use Rattle.card.proofs.count_call.Statement.{statement}

@@ -5,7 +5,7 @@ use native.Mathlib.Omega.{arith}
 use lib.Bits.{bitXor}
 use borrow.Author.Tests.{eq-eqb, ne-eqb}
 use borrow.Author.Needs.{needs}
-use Rattle.jc.specs.declared.Count.the-variants.{Known}
+use Rattle.standings.specs.declared.Count.the-variants.{Known}
 use Rattle.jc.specs.Word.{moved, countBits, sign}
 use Rattle.jc.specs.Pattern.{tableOf, patternAt, changeAt}
 use Rattle.jc.specs.Follow.{tracked}

@@ -2,13 +2,14 @@
 use mathlib.Core.Path.{_≡_, _∙_, ap}
 use Prim.Native.Nat.{ℕ}
 use borrow.Author.Needs.{needs}
-use Rattle.jc.specs.declared.Count.{Count}
+use Rattle.standings.specs.declared.Count.{Count}
+use Rattle.standings.specs.Standing.{Finding, said}
+use Rattle.standings.specs.Known.{inside}
 use Rattle.jc.specs.declared.Remembered.{Remembered}
 use Rattle.jc.specs.declared.Remembered.the-variants.{Word}
 use Rattle.jc.specs.Word.{wordBy}
 use Rattle.jc.specs.Pattern.{tableOf}
-use Rattle.jc.specs.Standing.{Finding, said}
-use Rattle.jc.specs.Follow.{inside, signed, reading, windowed, foundBy, found}
+use Rattle.jc.specs.Follow.{signed, reading, windowed, foundBy, found}
 use Rattle.jc.proofs.follow.Statement.{statement}
 use Rattle.jc.proofs.follow.Tie as tie
 

@@ -2,7 +2,7 @@
 use mathlib.Core.Path.{ap, ap₂, sym}
 use mathlib.Core.Path.{ap₂, sym}
 use borrow.Author.Needs.{needs}
-use Rattle.jc.specs.declared.Count.{Count}
+use Rattle.standings.specs.declared.Count.{Count}
 use Rattle.jc.specs.Follow.{hunted}
 use Rattle.jc.proofs.hunt.Statement.{statement}
 use Rattle.jc.proofs.hunt.Tie as tie

@@ -1,8 +1,8 @@
 -- `jc::judge_window` meets its contract. Assumes nothing.
 use mathlib.Core.Path.{_∙_, ap, sym}
 use borrow.Author.Needs.{needs}
-use Rattle.jc.specs.declared.Count.{Count}
-use Rattle.jc.specs.Standing.{said}
+use Rattle.standings.specs.declared.Count.{Count}
+use Rattle.standings.specs.Standing.{said}
 use Rattle.jc.specs.Follow.{windowedBy}
 use Rattle.jc.proofs.judge_window.Statement.{statement}
 use Rattle.jc.proofs.judge_window.Tie as tie

@@ -2,8 +2,8 @@
 use mathlib.Core.Path.{_≡_, _∙_, ap, sym}
 use Prim.Native.Nat.{ℕ, _+_, _<_}
 use borrow.Author.Needs.{needs}
-use Rattle.jc.specs.declared.Count.{Count}
-use Rattle.jc.specs.declared.Count.the-variants.{Known, Unknown}
+use Rattle.standings.specs.declared.Count.{Count}
+use Rattle.standings.specs.declared.Count.the-variants.{Known, Unknown}
 use Rattle.jc.specs.declared.Remembered.{Remembered}
 use Rattle.jc.specs.Word.{countBits, sign}
 use Rattle.jc.specs.Pattern.{Table, tableOf}

@@ -2,8 +2,8 @@
 use mathlib.Core.Path.{_∙_, ap, ap₂, sym}
 use Prim.Native.Nat.{ℕ}
 use borrow.Author.Needs.{needs}
-use Rattle.jc.specs.declared.Count.the-variants.{Known}
-use Rattle.jc.specs.Standing.{finding, READ}
+use Rattle.standings.specs.declared.Count.the-variants.{Known}
+use Rattle.standings.specs.Standing.{finding, READ}
 use Rattle.jc.specs.Follow.{hunted, reading}
 use Rattle.jc.proofs.read_word.Statement.{statement}
 use Rattle.jc.proofs.read_word.Tie as tie

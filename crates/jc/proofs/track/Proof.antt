@@ -1,7 +1,7 @@
 -- `jc::track` meets its contract. Assumes nothing.
 use mathlib.Core.Path.{_∙_, sym, ap}
 use borrow.Author.Needs.{needs}
-use Rattle.jc.specs.declared.Count.{Count}
+use Rattle.standings.specs.declared.Count.{Count}
 use Rattle.jc.specs.Follow.{fromCount}
 use Rattle.jc.specs.Pattern.{tableOf}
 use Rattle.jc.proofs.track.Statement.{statement}

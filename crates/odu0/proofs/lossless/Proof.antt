@@ -2,13 +2,13 @@
 use mathlib.Core.Path.{_≡_, refl, ap₂}
 use Prim.Native.Nat.{ℕ}
 use Rattle.settings.specs.Refusals.{accepted}
-use Rattle.jc.specs.declared.Count.{Count}
-use Rattle.jc.specs.declared.Count.the-variants.{Known, Unknown}
+use Rattle.standings.specs.declared.Count.{Count}
+use Rattle.standings.specs.declared.Count.the-variants.{Known, Unknown}
+use Rattle.standings.specs.declared.Standing.{Standing}
+use Rattle.standings.specs.declared.Standing.the-variants.{Read, Tracked, Paired, BadCheck, Waiting, Outside}
+use Rattle.standings.specs.Standing.{said}
 use Rattle.jc.specs.declared.Remembered.{Remembered}
 use Rattle.jc.specs.declared.Remembered.the-variants.{Word, Nothing}
-use Rattle.jc.specs.declared.Standing.{Standing}
-use Rattle.jc.specs.declared.Standing.the-variants.{Read, Tracked, Paired, BadCheck, Waiting, Outside}
-use Rattle.jc.specs.Standing.{said}
 use Rattle.sink.specs.declared.SinkState.{SinkState}
 use Rattle.odu0.specs.declared.SinkNumbers.{SinkNumbers}
 use Rattle.odu0.specs.Numbers.{countFrom, countFlag, countNumber, wordFrom, wordFlag, wordNumber, stateFrom, stateNumbers, sinkReplyBy}

@@ -6,7 +6,7 @@ use lib.ListN.{length}
 use borrow.Author.Needs.{needs}
 use Rattle.settings.specs.declared.Settings.{Settings}
 use Rattle.settings.specs.Refusals.{Answer}
-use Rattle.jc.specs.Standing.{Finding}
+use Rattle.standings.specs.Standing.{Finding}
 use Rattle.sink.specs.declared.SinkState.{SinkState}
 use Rattle.sink.specs.declared.SinkResult.{SinkResult}
 use Rattle.sink.specs.Sink.{told, sinkAnswer, sinkHanded, sinkOut, SinkPromise}

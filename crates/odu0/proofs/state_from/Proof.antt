@@ -1,7 +1,7 @@
 -- `odu0::state_from` meets its contract. Assumes nothing.
 use mathlib.Core.Path.{_≡_}
 use borrow.Author.Needs.{needs}
-use Rattle.jc.specs.declared.Count.{Count}
+use Rattle.standings.specs.declared.Count.{Count}
 use Rattle.jc.specs.declared.Remembered.{Remembered}
 use Rattle.sink.specs.declared.SinkState.{SinkState}
 use Rattle.odu0.proofs.state_from.Statement.{statement}

@@ -2,7 +2,7 @@
 use native.Mathlib.Omega.{arith}
 use borrow.Author.Needs.{needs}
 use borrow.Author.Tests.{eq-eqb, ne-eqb}
-use Rattle.jc.specs.Standing.{said, standingNumber}
+use Rattle.standings.specs.Standing.{said, standingNumber}
 use Rattle.odu0demap.proofs.is_same.Statement.{statement}
 use Rattle.odu0demap.proofs.is_same.Tie as tie
 

@@ -3,7 +3,7 @@ use mathlib.Core.Path.{_≡_, _∙_, sym, ap}
 use mathlib.Core.Bool.{true, false}
 use borrow.Author.Needs.{needs}
 use Rattle.crc8.specs.Check.{passes}
-use Rattle.jc.specs.Standing.{Finding}
+use Rattle.standings.specs.Standing.{Finding}
 use Rattle.sink.proofs.Laws.{standing-passed, standing-failed, word-passed, word-failed, count-after}
 use Rattle.sink.proofs.read_control.Statement.{statement}
 use Rattle.sink.proofs.read_control.Tie as tie

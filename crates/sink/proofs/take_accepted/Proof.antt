@@ -5,9 +5,9 @@ use Prim.Native.Nat.{ℕ}
 use lib.ListN.{length, drop}
 use borrow.Author.Needs.{needs}
 use Rattle.settings.specs.Refusals.{accepted}
-use Rattle.jc.specs.declared.Count.{Count}
+use Rattle.standings.specs.declared.Count.{Count}
+use Rattle.standings.specs.Standing.{Finding}
 use Rattle.jc.specs.declared.Remembered.{Remembered}
-use Rattle.jc.specs.Standing.{Finding}
 use Rattle.stuffing.specs.declared.Control.{Control}
 use Rattle.stuffing.specs.Frame.{controlOf}
 use Rattle.sink.specs.Sink.{stateAfter, standingAfter}

@@ -1,7 +1,7 @@
 -- `sinkshow::put_standing` meets its contract. Assumes nothing.
 use native.Mathlib.Omega.{arith}
 use borrow.Author.Needs.{needs}
-use Rattle.jc.specs.Standing.{said}
+use Rattle.standings.specs.Standing.{said}
 use Rattle.sinkshow.proofs.Laws.{puts-append, word-within, count-within}
 use Rattle.sinkshow.proofs.put_standing.Statement.{statement}
 use Rattle.sinkshow.proofs.put_standing.Tie as tie

@@ -2,10 +2,10 @@
 use mathlib.Core.List.{List, [], _∷_}
 use Prim.Native.Nat.{ℕ}
 use Rattle.bits.specs.Choice.{pick, sameList}
-use Rattle.jc.specs.declared.Count.{Count}
-use Rattle.jc.specs.declared.Count.the-variants.{Known, Unknown}
-use Rattle.jc.specs.declared.Standing.{Standing}
-use Rattle.jc.specs.declared.Standing.the-variants.{Read, Tracked, Paired, BadCheck, Waiting, Outside}
+use Rattle.standings.specs.declared.Count.{Count}
+use Rattle.standings.specs.declared.Count.the-variants.{Known, Unknown}
+use Rattle.standings.specs.declared.Standing.{Standing}
+use Rattle.standings.specs.declared.Standing.the-variants.{Read, Tracked, Paired, BadCheck, Waiting, Outside}
 
 -- a standing as the paper writes it: its word, in ASCII, and what it found
 pub record Finding : Type 0 where

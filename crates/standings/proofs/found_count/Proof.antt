@@ -1,10 +1,10 @@
--- `jc::found_count` meets its contract. Assumes nothing.
+-- `standings::found_count` meets its contract. Assumes nothing.
 use mathlib.Core.Path.{ap, sym}
 use borrow.Author.Needs.{needs}
-use Rattle.jc.specs.declared.Standing.{Standing}
-use Rattle.jc.specs.Standing.{said}
-use Rattle.jc.proofs.found_count.Statement.{statement}
-use Rattle.jc.proofs.found_count.Tie as tie
+use Rattle.standings.specs.declared.Standing.{Standing}
+use Rattle.standings.specs.Standing.{said}
+use Rattle.standings.proofs.found_count.Statement.{statement}
+use Rattle.standings.proofs.found_count.Tie as tie
 
 enum-known-standing : tie.Need-enum-known-standing
 enum-known-standing c = search needs

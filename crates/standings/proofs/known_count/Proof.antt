@@ -1,9 +1,9 @@
--- `jc::known_count` meets its contract. Assumes nothing.
+-- `standings::known_count` meets its contract. Assumes nothing.
 use mathlib.Core.Path.{_∙_, ap, sym}
 use borrow.Author.Needs.{needs}
-use Rattle.jc.specs.Follow.{inside}
-use Rattle.jc.proofs.known_count.Statement.{statement}
-use Rattle.jc.proofs.known_count.Tie as tie
+use Rattle.standings.specs.Known.{inside}
+use Rattle.standings.proofs.known_count.Statement.{statement}
+use Rattle.standings.proofs.known_count.Tie as tie
 
 enum-known-count : tie.Need-enum-known-count
 enum-known-count c = search needs

@@ -1,0 +1,2 @@
+-- In Laws stands what other crates cite. Assumes nothing.
+pub mod Laws

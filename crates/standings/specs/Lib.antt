@@ -1,0 +1,3 @@
+-- The standings and the count of a sink. Assumes nothing.
+pub mod Standing
+pub mod Known

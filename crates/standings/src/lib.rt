@@ -1,0 +1,62 @@
+// The six standings of a sink, and the count that it knows or does not know.
+use settings::Settings;
+ghost use mathlib.Core.Path.{_≡_};
+ghost use Rattle.standings.specs.Standing.{said, standingNumber};
+ghost use Rattle.standings.specs.Known.{inside};
+
+// A count, where it is known.
+pub enum Count {
+    Known(u32),
+    Unknown,
+}
+
+// The answer of a sink to a frame: the first three found a count.
+pub enum Standing {
+    Read(u32),
+    Tracked(u32),
+    Paired(u32),
+    BadCheck,
+    Waiting,
+    Outside,
+}
+
+// The count, where it is known and inside the window.
+pub fn known_count(settings: Settings, count: Count) -> Count
+    ensures { λ r. ⌜ r ≡ inside settings count ⌝ }
+{
+    let Count::Known(n) = count else {
+        return Count::Unknown;
+    };
+    if settings::is_outside(settings, n) {
+        return Count::Unknown;
+    }
+    Count::Known(n)
+}
+
+// What a standing found.
+pub fn found_count(standing: Standing) -> Count
+    ensures { λ r. ⌜ r ≡ said standing .count ⌝ }
+{
+    match standing {
+        Standing::Read(n) => Count::Known(n),
+        Standing::Tracked(n) => Count::Known(n),
+        Standing::Paired(n) => Count::Known(n),
+        Standing::BadCheck => Count::Unknown,
+        Standing::Waiting => Count::Unknown,
+        Standing::Outside => Count::Unknown,
+    }
+}
+
+// The number of a standing, 1 to 6.
+pub fn standing_number(standing: Standing) -> u32
+    ensures { λ r. ⌜ r ≡ standingNumber (said standing .name) ⌝ }
+{
+    match standing {
+        Standing::Read(_) => 1,
+        Standing::Tracked(_) => 2,
+        Standing::Paired(_) => 3,
+        Standing::BadCheck => 4,
+        Standing::Waiting => 5,
+        Standing::Outside => 6,
+    }
+}
