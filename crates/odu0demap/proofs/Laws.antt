@@ -7,7 +7,7 @@ use lib.ListN.{length, take, drop, length-append}
 use lib.Seq.{take-at}
 use Rattle.io.specs.Counts.{Counts}
 use Rattle.settings.specs.declared.Refusal.{Refusal}
-use Rattle.settings.specs.Refusals.{Answer, accepted, refused, refusalNumber}
+use Rattle.settings.specs.Refusals.{Answer, accepted}
 use Rattle.settings.specs.Settings.{opu0}
 use Rattle.standings.specs.declared.Standing.{Standing}
 use Rattle.standings.specs.Standing.{Finding, said, standingNumber}
@@ -15,8 +15,8 @@ use Rattle.tally.specs.declared.Tally.{Tally}
 use Rattle.sink.specs.declared.SinkState.{SinkState}
 use Rattle.sink.specs.declared.SinkAnswer.the-variants.{Done, Refused}
 use Rattle.sink.specs.declared.SinkResult.{SinkResult}
-use Rattle.sink.specs.Sink.{sinkNumber, told}
-use Rattle.sink.proofs.Laws.{answer-accepted, state-accepted, handed-accepted, out-accepted}
+use Rattle.sink.specs.Sink.{sinkNumber}
+use Rattle.sink.proofs.Laws.{answer-accepted, state-accepted, handed-accepted, out-accepted, never-refused, done-says}
 use Rattle.card.specs.Card.{tallyBy, tallyAfter, CallPromise}
 use Rattle.odu0demap.specs.declared.Demapper.{Demapper}
 use Rattle.odu0demap.specs.Demapping.{standingOf, bytesOf, Takes}
@@ -46,20 +46,13 @@ module _ (d : Demapper) (frame out : List ℕ) (size : length frame ≡ 15240) (
       (handed-accepted opu0 (d .state) frame out none-refused)
 
   module _ (r : SinkResult) (after : List ℕ) (tally : Tally) (p : CallPromise opu0 (d .state) frame out (d .tally) r after tally) where
-    answered : told (r .answer) ≡ accepted (standingOf d frame)
-    answered = p .sink .answer ∙ answer-accepted opu0 (d .state) frame out none-refused
-
-    pub never-refused : (x : Refusal) → r .answer ≡ Refused x → ⊥
-    never-refused x e =
-        let o : refused (refusalNumber x) ≡ accepted (standingOf d frame) = sym (ap told e) ∙ answered in
-        let zero : _≡_ {A = ℕ} 0 1 = cc in
-        omega arith
+    pub not-refused : (x : Refusal) → r .answer ≡ Refused x → ⊥
+    not-refused = never-refused none-refused (p .sink)
 
     pub takes : (x : Standing) → r .answer ≡ Done x → (w : ℕ) → w ≡ standingNumber (said x .name)
         → Takes d frame (record { handed = r .handed; standing = x; after = record { state = r .state; tally = tally; word = w } }) after
     takes x e w f =
-        let o : accepted (said x) ≡ accepted (standingOf d frame) = sym (ap told e) ∙ answered in
-        let s : said x ≡ standingOf d frame = cc in
+        let s : said x ≡ standingOf d frame = done-says none-refused (p .sink) x e in
         let n : r .handed ≡ length (bytesOf d frame) = p .sink .handed-bytes ∙ ap length (handed-accepted opu0 (d .state) frame out none-refused) in
         let b =
         first-bytes (bytesOf d frame) (drop (length (bytesOf d frame)) out) after (r .handed)

@@ -2,7 +2,6 @@
 // frame's standing and for each change of it, in its word or in the count found, and at the end the card's tally.
 use libc::STDERR_FILENO;
 use libc::STDIN_FILENO;
-use libc::STDOUT_FILENO;
 use settings::Settings;
 use sink::SinkAnswer;
 use sink::SinkState;
@@ -85,7 +84,7 @@ fn take_next(number: u64, demapper: Demapper) -> Next {
     match got {
         Got::Whole => take_frame(number, demapper, &frame),
         Got::Rest(left) => {
-            show_left(left);
+            stream::say_left(b"odu0demap: ", left);
             Next::End
         }
         Got::Failed => {
@@ -105,7 +104,8 @@ fn take_frame(number: u64, demapper: Demapper, frame: &[u8]) -> Next
     let standing = taken.standing;
     let after = taken.after;
     show_change(number, demapper, standing);
-    if write_client(&out[..taken.handed as usize]) {
+    let bytes = &out[..taken.handed as usize];
+    if stream::write_out(bytes, b"odu0demap: standard output") {
         return Next::From(after);
     }
     Next::End
@@ -143,15 +143,6 @@ fn demap_frame(demapper: Demapper, frame: &[u8], out: &mut [u8]) -> Taken
             word: standings::standing_number(standing),
         },
     }
-}
-
-// Writes client bytes to standard output, or says on standard error why that failed.
-fn write_client(bytes: &[u8]) -> bool {
-    let is_written = io::write_all(STDOUT_FILENO, bytes);
-    if !is_written {
-        os::fail(b"odu0demap: standard output");
-    }
-    is_written
 }
 
 // Says the standing of a frame and its count or "-", where that is not what the frame before had.
@@ -208,14 +199,6 @@ fn show_word(standing: Standing) {
         Standing::Outside => io::write_all(STDERR_FILENO, b"OUTSIDE"),
     }
     ;
-}
-
-// Says how many bytes of a frame were left where the input ended within it.
-fn show_left(left: usize) {
-    if left == 0 {
-        return;
-    }
-    stream::say(b"odu0demap: ", left as u64, b" bytes left at the end\n");
 }
 
 // Says the tally: frames taken, BADCHECK frames and bytes handed out.

@@ -2,7 +2,6 @@
 // numbers are the program's arguments; with none the rate is 18,671,875 / 1,296.
 use libc::STDERR_FILENO;
 use libc::STDIN_FILENO;
-use libc::STDOUT_FILENO;
 use rate::KeeperAnswer;
 use settings::Refusal;
 use settings::Settings;
@@ -147,7 +146,7 @@ fn take_load(rate: Rate, mapper: Mapper, client: &mut [u8]) -> Next
     match got {
         Got::Whole => map_load(rate, mapper, load),
         Got::Rest(left) => {
-            show_left(left);
+            stream::say_left(b"odu0map: ", left);
             Next::End
         }
         Got::Failed => {
@@ -164,7 +163,7 @@ fn map_load(rate: Rate, mapper: Mapper, load: &[u8]) -> Next
 {
     let mut frame = [0u8; 15240];
     let after = make_frame(rate, mapper, load, &mut frame);
-    if write_frame(&frame) {
+    if stream::write_out(&frame, b"odu0map: standard output") {
         return Next::From(after);
     }
     Next::End
@@ -189,15 +188,6 @@ fn make_frame(rate: Rate, mapper: Mapper, load: &[u8], frame: &mut [u8]) -> Mapp
     }
 }
 
-// Writes a frame to standard output, or says on standard error why that failed.
-fn write_frame(frame: &[u8]) -> bool {
-    let is_written = io::write_all(STDOUT_FILENO, frame);
-    if !is_written {
-        os::fail(b"odu0map: standard output");
-    }
-    is_written
-}
-
 // The settings of OPU0.
 fn opu0() -> Settings
     ensures { λ r. ⌜ r ≡ opu0 ⌝ }
@@ -207,14 +197,6 @@ fn opu0() -> Settings
         lo: 14405,
         hi: 14410,
     }
-}
-
-// Says how many bytes were not mapped, where there are any.
-fn show_left(left: usize) {
-    if left == 0 {
-        return;
-    }
-    stream::say(b"odu0map: ", left as u64, b" bytes left at the end\n");
 }
 
 // Says how many frames were written, and how many client bytes they carry.

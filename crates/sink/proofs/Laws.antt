@@ -10,13 +10,15 @@ use borrow.Author.Tests.{eqb-true, ltb-false, not-false, eq-eqb, ne-eqb}
 use Rattle.bits.specs.Choice.{pick}
 use Rattle.crc8.specs.Check.{passes}
 use Rattle.settings.specs.declared.Settings.{Settings}
+use Rattle.settings.specs.declared.Refusal.{Refusal}
 use Rattle.settings.specs.Grid.{payloadBytes, frameBytes}
-use Rattle.settings.specs.Refusals.{ascending, accepted, refused}
+use Rattle.settings.specs.Refusals.{ascending, accepted, refused, refusalNumber}
 use Rattle.settings.specs.Settings.{settingsReasons, Fit, outside}
 use Rattle.settings.proofs.Laws.{none-applies, all-passed, settings-fit, inside-window}
 use Rattle.standings.specs.declared.Count.{Count}
 use Rattle.standings.specs.declared.Count.the-variants.{Known, Unknown}
-use Rattle.standings.specs.Standing.{finding, BADCHECK}
+use Rattle.standings.specs.declared.Standing.{Standing}
+use Rattle.standings.specs.Standing.{finding, BADCHECK, said}
 use Rattle.standings.specs.Known.{inside}
 use Rattle.jc.specs.declared.Remembered.{Remembered}
 use Rattle.jc.specs.declared.Remembered.the-variants.{Word, Nothing}
@@ -26,7 +28,9 @@ use Rattle.stuffing.specs.declared.Control.{Control}
 use Rattle.stuffing.specs.Frame.{controlOf, clientBytes, clientTaken}
 use Rattle.stuffing.proofs.Laws.{length-client, taken-fits}
 use Rattle.sink.specs.declared.SinkState.{SinkState}
-use Rattle.sink.specs.Sink.{sinkReasons, sinkNumber, handed, standingAfter, stateAfter, sinkAnswer, sinkState, sinkHanded, sinkOut, HandsOut}
+use Rattle.sink.specs.declared.SinkAnswer.the-variants.{Done, Refused}
+use Rattle.sink.specs.declared.SinkResult.{SinkResult}
+use Rattle.sink.specs.Sink.{sinkReasons, sinkNumber, handed, standingAfter, stateAfter, told, sinkAnswer, sinkState, sinkHanded, sinkOut, SinkPromise, HandsOut}
 
 -- an accepted call
 pub record Accepted (s : Settings) (frameLength outLength : ℕ) : Type 0 where
@@ -142,3 +146,20 @@ state-of-parts count word x e f = ap₂ (λ (c : Count) (w : Remembered). record
 -- the lines of the sink's table stand in ascending order
 pub sink-ascending : (s : Settings) (f o : ℕ) → ascending 0 (settingsReasons s ++ sinkReasons s f o) ≡ true
 sink-ascending s f o = refl
+
+-- A call that no number turns back is not refused, and its standing is what the control bytes lead to.
+module _ {s : Settings} {z : SinkState} {frame out : List ℕ} (none : sinkNumber s (length frame) (length out) ≡ 0) {r : SinkResult} {after : List ℕ}
+    (p : SinkPromise s z frame out r after) where
+  answered : told (r .answer) ≡ accepted (standingAfter s z (controlOf (s .k) frame))
+  answered = p .answer ∙ answer-accepted s z frame out none
+
+  pub never-refused : (x : Refusal) → r .answer ≡ Refused x → ⊥
+  never-refused x e =
+      let o : refused (refusalNumber x) ≡ accepted (standingAfter s z (controlOf (s .k) frame)) = sym (ap told e) ∙ answered in
+      let zero : _≡_ {A = ℕ} 0 1 = cc in
+      omega arith
+
+  pub done-says : (x : Standing) → r .answer ≡ Done x → said x ≡ standingAfter s z (controlOf (s .k) frame)
+  done-says x e =
+      let o : accepted (said x) ≡ accepted (standingAfter s z (controlOf (s .k) frame)) = sym (ap told e) ∙ answered in
+      cc

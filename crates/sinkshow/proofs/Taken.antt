@@ -1,19 +1,16 @@
 -- A frame of 16 bytes is never refused on these settings, and its line tells what the sink made of it. Assumes nothing.
-use mathlib.Core.Path.{_≡_, sym, ap, _∙_}
+use mathlib.Core.Path.{_≡_, ap, _∙_}
 use mathlib.Core.List.{List}
 use Prim.Native.Nat.{ℕ}
-use native.Mathlib.Omega.{arith}
 use lib.ListN.{length}
 use Rattle.settings.specs.declared.Refusal.{Refusal}
-use Rattle.settings.specs.Refusals.{accepted, refused, refusalNumber}
 use Rattle.standings.specs.declared.Standing.{Standing}
 use Rattle.standings.specs.Standing.{said}
-use Rattle.stuffing.specs.Frame.{controlOf}
 use Rattle.sink.specs.declared.SinkState.{SinkState}
 use Rattle.sink.specs.declared.SinkAnswer.the-variants.{Done, Refused}
 use Rattle.sink.specs.declared.SinkResult.{SinkResult}
-use Rattle.sink.specs.Sink.{sinkNumber, handed, standingAfter, told, SinkPromise}
-use Rattle.sink.proofs.Laws.{answer-accepted, state-accepted, handed-accepted}
+use Rattle.sink.specs.Sink.{sinkNumber, handed, SinkPromise}
+use Rattle.sink.proofs.Laws.{state-accepted, handed-accepted, never-refused, done-says}
 use Rattle.sinkshow.specs.Lines.{numbersText, standingText}
 use Rattle.sinkshow.specs.Show.{small, Puts, Shows}
 use Rattle.sinkshow.proofs.Laws.{puts-append}
@@ -24,23 +21,15 @@ module _ (z : SinkState) (frame out : List ℕ) (sixteen : length frame ≡ 16) 
   none-refused = rw (sixteen, eight)
 
   module _ (r : SinkResult) (after : List ℕ) (p : SinkPromise small z frame out r after) where
-    answered : told (r .answer) ≡ accepted (standingAfter small z (controlOf 2 frame))
-    answered = p .answer ∙ answer-accepted small z frame out none-refused
-
-    pub never-refused : (x : Refusal) → r .answer ≡ Refused x → ⊥
-    never-refused x e =
-        let o : refused (refusalNumber x) ≡ accepted (standingAfter small z (controlOf 2 frame)) = sym (ap told e) ∙ answered in
-        let zero : _≡_ {A = ℕ} 0 1 = cc in
-        omega arith
+    pub not-refused : (x : Refusal) → r .answer ≡ Refused x → ⊥
+    not-refused = never-refused none-refused p
 
     pub shown : (number : ℕ) (standing : Standing) → r .answer ≡ Done standing → (line mid made : List ℕ) (at n : ℕ)
         → Puts line 0 (numbersText number (r .handed)) at mid → Puts mid at (standingText (said standing)) n made
         → Shows number z frame line (record { length = n; state = r .state }) made
     shown number standing e line mid made at n a b =
-        let o : accepted (said standing) ≡ accepted (standingAfter small z (controlOf 2 frame)) = sym (ap told e) ∙ answered in
-        let f : said standing ≡ standingAfter small z (controlOf 2 frame) = cc in
         let h : r .handed ≡ length (handed small z frame) = p .handed-bytes ∙ ap length (handed-accepted small z frame out none-refused) in
         record {
-          made = puts-append (rw h at a) (rw f at b);
+          made = puts-append (rw h at a) (rw (done-says none-refused p standing e) at b);
           state = p .state ∙ state-accepted small z frame out none-refused;
         }

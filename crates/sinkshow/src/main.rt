@@ -1,7 +1,6 @@
 // Shows what a new sink makes of the 16-byte frames on standard input (K = 2, window 0 to 8): a line for each frame, and a last line where
 // the input ends within one. Every byte of a line is promised by the functions that make it.
 use libc::STDIN_FILENO;
-use libc::STDOUT_FILENO;
 use settings::Settings;
 use sink::SinkAnswer;
 use sink::SinkState;
@@ -83,13 +82,9 @@ fn show_rest(left: usize) {
     write_line(&line[..length]);
 }
 
-// Writes a line to standard output, or says on standard error why that failed.
+// Writes a line to standard output.
 fn write_line(line: &[u8]) -> bool {
-    let is_written = io::write_all(STDOUT_FILENO, line);
-    if !is_written {
-        os::fail(b"sinkshow: standard output");
-    }
-    is_written
+    stream::write_out(line, b"sinkshow: standard output")
 }
 
 // Hands a frame to the sink and makes its line. With 16 bytes, these settings and this output buffer no call is refused.

@@ -1,5 +1,6 @@
 // What the filters share: whole blocks from a descriptor, numbers from arguments, and messages on standard error.
 use libc::STDERR_FILENO;
+use libc::STDOUT_FILENO;
 ghost use mathlib.Core.Path.{_≡_};
 ghost use lib.ListN.{length};
 ghost use Rattle.stream.specs.Gather.{Gathers};
@@ -73,6 +74,23 @@ pub fn say(before: &[u8], n: u64, behind: &[u8]) {
     io::write_all(STDERR_FILENO, before);
     io::print_decimal(STDERR_FILENO, n);
     io::write_all(STDERR_FILENO, behind);
+}
+
+// Says how many bytes were left where the input ended within a block, if there were any.
+pub fn say_left(name: &[u8], left: usize) {
+    if left == 0 {
+        return;
+    }
+    say(name, left as u64, b" bytes left at the end\n");
+}
+
+// Writes bytes to standard output, or says on standard error why that failed.
+pub fn write_out(bytes: &[u8], name: &[u8]) -> bool {
+    let is_written = io::write_all(STDOUT_FILENO, bytes);
+    if !is_written {
+        os::fail(name);
+    }
+    is_written
 }
 
 // The number with one digit more, where that is a digit and the number stays within 32 bits.

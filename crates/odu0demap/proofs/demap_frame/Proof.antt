@@ -1,5 +1,5 @@
 -- `odu0demap::demap_frame` meets its contract. Assumes nothing.
-use Rattle.odu0demap.proofs.Laws.{never-refused, takes}
+use Rattle.odu0demap.proofs.Laws.{not-refused, takes}
 use borrow.Author.Needs.{needs}
 use Rattle.odu0demap.proofs.demap_frame.Statement.{statement}
 use Rattle.odu0demap.proofs.demap_frame.Tie as tie
@@ -22,7 +22,7 @@ returns c =
     let g = start .args in
     let k = c .before .before .before .before .before .before .before .count-call in
     absurd
-    (never-refused (g .demapper) (g .frame .now) (g .out .now) (start .pre .0) (start .pre .1) (k .result .result) _ (k .result .tally)
+    (not-refused (g .demapper) (g .frame .now) (g .out .now) (start .pre .0) (start .pre .1) (k .result .result) _ (k .result .tally)
     (k .ensures) _ (c .enum-told .given .1))
 
 standing-number-requires : tie.Need-standing-number-requires

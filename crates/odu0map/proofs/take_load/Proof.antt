@@ -35,8 +35,11 @@ map-load-requires c κs =
 enum-known-got : tie.Need-enum-known-got
 enum-known-got c = search needs
 
-show-left-requires : tie.Need-show-left-requires
-show-left-requires c κs = search needs
+slice-aggregate-say-left : tie.Need-slice-aggregate-say-left
+slice-aggregate-say-left c = search needs
+
+say-left-requires : tie.Need-say-left-requires
+say-left-requires c κs = search needs
 
 enum-told-2 : tie.Need-enum-told-2
 enum-told-2 c = search needs
@@ -76,7 +79,8 @@ take-load-spec =
     enum-told
     map-load-requires
     enum-known-got
-    show-left-requires
+    slice-aggregate-say-left
+    say-left-requires
     enum-told-2
     slice-aggregate-fail
     fail-requires

@@ -2,7 +2,7 @@
 use mathlib.Core.Path.{refl}
 use native.Mathlib.Omega.{arith}
 use borrow.Author.Needs.{needs}
-use Rattle.sinkshow.proofs.Taken.{never-refused, shown}
+use Rattle.sinkshow.proofs.Taken.{not-refused, shown}
 use Rattle.sinkshow.proofs.Laws.{numbers-within}
 use Rattle.sinkshow.proofs.take_frame.Statement.{statement}
 use Rattle.sinkshow.proofs.take_frame.Tie as tie
@@ -24,7 +24,7 @@ returns c =
     let start = c .before .before .before .before .before .before .before .before in
     let g = start .args in
     let t = c .before .before .before .before .take-frame in
-    absurd (never-refused (g .state) (g .frame .now) _ (start .pre .0) refl (t .result) _ (t .ensures) _ (c .enum-told .given .1))
+    absurd (not-refused (g .state) (g .frame .now) _ (start .pre .0) refl (t .result) _ (t .ensures) _ (c .enum-told .given .1))
 
 put-numbers-requires : tie.Need-put-numbers-requires
 put-numbers-requires c κs = search needs
