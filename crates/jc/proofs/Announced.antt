@@ -11,7 +11,6 @@ use Rattle.bits.specs.Choice.{pick, pick-elim}
 use Rattle.jc.specs.Word.{modulus, wordOf, countBits, equalIndicators, sign}
 use Rattle.jc.specs.Pattern.{Table, Rule, patternAt, changeAt}
 use Rattle.jc.specs.Announce.{changesBy, announced}
-use Rattle.jc.proofs.Packing.{word-lt}
 use Rattle.jc.proofs.Pairing.{Of, sent, after}
 
 word-equal : (c i d : ℕ) → i < 2 → d < 2 → equalIndicators (wordOf c i d) ≡ eqb i d
@@ -26,6 +25,9 @@ word-bits c i d hc hi hd = omega arith
 
 word-sign : (c i d : ℕ) → i < 2 → d < 2 → sign (wordOf c i d) ≡ d
 word-sign c i d hi hd = omega arith
+
+word-lt : (c i d : ℕ) → i < 2 → d < 2 → wordOf c i d < 65536
+word-lt c i d hi hd = omega arith
 
 -- II = DI: the count bits are the next count
 pub record Plain (next w : ℕ) : Type 0 where

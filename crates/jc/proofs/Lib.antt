@@ -1,4 +1,3 @@
-mod Packing
 pub mod Tables
 mod Parity
 mod Pairing

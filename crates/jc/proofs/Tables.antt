@@ -1,11 +1,21 @@
 -- The tables of patterns and changes. Assumes nothing.
-use Prim.Native.Nat.{ℕ, zero, suc, _<_}
-use mathlib.Core.Path.{refl}
+use Prim.Native.Nat.{ℕ, zero, suc, _<_, _≤_}
+use mathlib.Core.Path.{_≡_, refl}
+use mathlib.Core.List.{[], _∷_}
 use native.Mathlib.Omega.{arith}
 use lib.Dec.{lit<}
+use lib.ListN.{getD}
 use Rattle.settings.specs.declared.Settings.{Settings}
 use Rattle.jc.specs.Word.{modulus}
 use Rattle.jc.specs.Pattern.{standard, tableOf, patternAt, changeAt, Rule}
+
+-- a table of four has nothing beyond
+pub beyond : (a b c d k : ℕ) → 4 ≤ k → getD (a ∷ b ∷ c ∷ d ∷ []) k 0 ≡ 0
+beyond a b c d zero h = absurd (omega arith)
+beyond a b c d (suc zero) h = absurd (omega arith)
+beyond a b c d (suc (suc zero)) h = absurd (omega arith)
+beyond a b c d (suc (suc (suc zero))) h = absurd (omega arith)
+beyond a b c d (suc (suc (suc (suc k)))) h = refl
 
 -- a change is a number modulo 16,384
 pub change-lt : (k : ℕ) → changeAt k < modulus

@@ -98,7 +98,7 @@ fn read_control(settings: Settings, state: SinkState, control: Control) -> Follo
     let count = state.count;
     let word = state.word;
     if crc8::passes(control.jc1, control.jc2, control.jc3) {
-        return jc::follow(settings, count, word, control.jc1, control.jc2);
+        return follow::follow(settings, count, word, control.jc1, control.jc2);
     }
     Followed {
         standing: Standing::BadCheck,

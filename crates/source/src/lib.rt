@@ -121,7 +121,7 @@ fn judge_call(
 fn control_bytes(settings: Settings, old: u32, next: u32) -> Control
     ensures { λ r. ⌜ r ≡ controlBytes settings old next ⌝ }
 {
-    let word = jc::announce(settings, old, next);
+    let word = announce::announce(settings, old, next);
     let jc3 = crc8::remainder(word.jc1, word.jc2);
     Control {
         jc1: word.jc1,

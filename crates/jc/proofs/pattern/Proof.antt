@@ -1,7 +1,9 @@
 -- `jc::pattern` meets its contract: the table is that of the settings. Assumes nothing.
-use mathlib.Core.Path.{refl}
+use mathlib.Core.Path.{refl, sym}
+use native.Mathlib.Omega.{arith}
 use borrow.Author.Needs.{needs}
 use Rattle.jc.specs.Pattern.{tableOf}
+use Rattle.jc.proofs.Tables.{beyond}
 use Rattle.jc.proofs.pattern.Statement.{statement}
 use Rattle.jc.proofs.pattern.Tie as tie
 
@@ -15,5 +17,9 @@ returns : tie.Need-returns
 unfolding tableOf
 returns c = refl
 
+returns-2 : tie.Need-returns-2
+unfolding tableOf
+returns-2 c = sym (beyond _ _ _ _ (c .before .args .change) (omega (arith, c .if1 .left)))
+
 pub pattern-spec : {M : Type 1} → statement M
-pattern-spec = tie.close (tie.spec mul-result array-read-result returns)
+pattern-spec = tie.close (tie.spec mul-result array-read-result returns returns-2)
