@@ -1,5 +1,6 @@
 // Maps standard input, a stream of client bytes, into OPU0 frames on standard output, at the rate p / q of client bytes a frame. The two
 // numbers are the program's arguments; with none the rate is 18,671,875 / 1,296.
+use decimal::Number;
 use libc::STDERR_FILENO;
 use libc::STDIN_FILENO;
 use rate::KeeperAnswer;
@@ -9,7 +10,6 @@ use settings::Verdict;
 use source::SourceStart;
 use source::SourceState;
 use stream::Got;
-use stream::Number;
 ghost use mathlib.Core.Path.{_≡_};
 ghost use lib.ListN.{length};
 ghost use Rattle.settings.specs.Settings.{opu0};

@@ -1,3 +1,2 @@
 -- What the filters share. Assumes nothing.
 pub mod Gather
-pub mod Number

@@ -1,8 +1,8 @@
--- `stream::with_digit` meets its contract. Assumes nothing.
+-- `decimal::with_digit` meets its contract. Assumes nothing.
 use borrow.Author.Tests.{lt-ltb, le-ltb}
 use borrow.Author.Needs.{needs}
-use Rattle.stream.proofs.with_digit.Statement.{statement}
-use Rattle.stream.proofs.with_digit.Tie as tie
+use Rattle.decimal.proofs.with_digit.Statement.{statement}
+use Rattle.decimal.proofs.with_digit.Tie as tie
 
 returns : tie.Need-returns
 returns c = simp (lt-ltb _ _ (c .if1 .taken))

@@ -9,9 +9,9 @@ use lib.ListN.{length, getD, drop}
 use lib.Seq.{drop-cons}
 use borrow.Author.Tests.{ltb-true, lt-ltb, le-ltb, eq-eqb, ne-eqb}
 use Rattle.bits.specs.Choice.{pick, either}
-use Rattle.stream.specs.declared.Number.{Number}
-use Rattle.stream.specs.declared.Number.the-variants.{Value, Wrong}
-use Rattle.stream.specs.Number.{noDigit, stray, appended, valueFrom, fitted, withDigit, numberFrom, numberOf}
+use Rattle.decimal.specs.declared.Number.{Number}
+use Rattle.decimal.specs.declared.Number.the-variants.{Value, Wrong}
+use Rattle.decimal.specs.Number.{noDigit, stray, appended, valueFrom, fitted, withDigit, numberFrom, numberOf}
 
 -- a text of no byte, and one of a byte or more
 pub none : (s : List ℕ) → length s ≡ 0 → numberOf s ≡ Wrong

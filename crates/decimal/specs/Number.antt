@@ -5,8 +5,8 @@ use Prim.Native.Nat.{ℕ, _+_, _-_, _*_}
 use lib.Dec.{ltb, eqb}
 use lib.ListN.{length}
 use Rattle.bits.specs.Choice.{pick, either}
-use Rattle.stream.specs.declared.Number.{Number}
-use Rattle.stream.specs.declared.Number.the-variants.{Value, Wrong}
+use Rattle.decimal.specs.declared.Number.{Number}
+use Rattle.decimal.specs.declared.Number.the-variants.{Value, Wrong}
 
 -- a byte below "0" or above "9" is no digit
 abbrev pub noDigit : ℕ → Bool

@@ -1,15 +1,15 @@
--- `stream::parse` meets its contract. At each turn the number read so far, with the rest of the text behind it, is what the text spells.
+-- `decimal::parse` meets its contract. At each turn the number read so far, with the rest of the text behind it, is what the text spells.
 -- Assumes nothing.
 use mathlib.Core.Path.{_≡_, sym, ap, _∙_}
 use Prim.Native.Nat.{_+_, _-_, _≤_, _<_}
 use native.Mathlib.Omega.{arith}
 use lib.ListN.{length, drop}
 use borrow.Author.Needs.{needs}
-use Rattle.stream.specs.declared.Number.{Number}
-use Rattle.stream.specs.Number.{numberFrom, numberOf}
-use Rattle.stream.proofs.Reading.{none, begins, onwards, moves, ends}
-use Rattle.stream.proofs.parse.Statement.{statement}
-use Rattle.stream.proofs.parse.Tie as tie
+use Rattle.decimal.specs.declared.Number.{Number}
+use Rattle.decimal.specs.Number.{numberFrom, numberOf}
+use Rattle.decimal.proofs.Reading.{none, begins, onwards, moves, ends}
+use Rattle.decimal.proofs.parse.Statement.{statement}
+use Rattle.decimal.proofs.parse.Tie as tie
 
 abbrev Inv-loop : tie.InvT-loop
 Inv-loop text n₀ i₀ n i = (i ≤ length text) × (n < 4294967296) × (numberOf text ≡ numberFrom n (drop i text))

@@ -1,0 +1,2 @@
+-- The number that a text spells. Assumes nothing.
+mod Reading

@@ -1,2 +1,0 @@
--- What the filters share. Assumes nothing.
-mod Reading
