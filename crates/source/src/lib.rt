@@ -74,15 +74,15 @@ pub fn source_call(
     }
 }
 
-// Numbers 1, 2 and 5.
-fn judge_start(settings: Settings, first: u32) -> Verdict
-    ensures { λ v. ⌜ verdictNumber v ≡ startNumber settings first ⌝ }
+// Numbers 1, 2 and 5, for a source's count.
+fn judge_start(settings: Settings, count: u32) -> Verdict
+    ensures { λ v. ⌜ verdictNumber v ≡ startNumber settings count ⌝ }
 {
     let verdict = settings::judge(settings);
     let Verdict::Accepted = verdict else {
         return verdict;
     };
-    if settings::is_outside(settings, first) {
+    if settings::is_outside(settings, count) {
         return Verdict::Refused(Refusal::State);
     }
     Verdict::Accepted
@@ -98,13 +98,10 @@ fn judge_call(
 ) -> Verdict
     ensures { λ v. ⌜ verdictNumber v ≡ sourceNumber settings state next load length ⌝ }
 {
-    let verdict = settings::judge(settings);
+    let verdict = judge_start(settings, state.count);
     let Verdict::Accepted = verdict else {
         return verdict;
     };
-    if settings::is_outside(settings, state.count) {
-        return Verdict::Refused(Refusal::State);
-    }
     if settings::is_outside(settings, next) {
         return Verdict::Refused(Refusal::Count);
     }

@@ -1,15 +1,44 @@
--- `source::judge_call` meets its contract: each return rewrites with the tests that led to it. Assumes nothing.
-use mathlib.Core.Path.{_≡_, _∙_, sym}
+-- `source::judge_call` meets its contract: where the settings and the present count pass, each return rewrites with the tests that led to it.
+-- Assumes nothing.
+use mathlib.Core.Path.{_≡_, _∙_, ap, sym}
+use mathlib.Core.Bool.{not}
+use mathlib.Core.List.{List, [], _∷_, _++_}
+use Prim.Native.Nat.{ℕ}
+use lib.Dec.{eqb}
 use borrow.Author.Tests.{eq-eqb, ne-eqb}
 use borrow.Author.Needs.{needs}
-use Rattle.settings.specs.Refusals.{lowest}
-use Rattle.settings.proofs.Laws.{settings-refuse, settings-pass, own-lines-decide}
-use Rattle.source.specs.Source.{sourceReasons, sourceNumber}
+use Rattle.settings.specs.declared.Settings.{Settings}
+use Rattle.settings.specs.declared.Refusal.{Refusal}
+use Rattle.settings.specs.declared.Verdict.{Verdict}
+use Rattle.settings.specs.declared.Verdict.the-variants.{Accepted, Refused}
+use Rattle.settings.specs.Grid.{frameBytes}
+use Rattle.settings.specs.Refusals.{verdictNumber, Reason, reason, lowest}
+use Rattle.settings.specs.Settings.{settingsReasons, outside}
+use Rattle.settings.proofs.Laws.{lowest-first, lowest-second, refused-has-number}
+use Rattle.source.specs.declared.SourceState.{SourceState}
+use Rattle.source.specs.Source.{startReasons, startNumber, sourceNumber}
+use Rattle.source.proofs.Laws.{start-ascending}
 use Rattle.source.proofs.judge_call.Statement.{statement}
 use Rattle.source.proofs.judge_call.Tie as tie
 
-judge-requires : tie.Need-judge-requires
-judge-requires c κs = search needs
+module _ (s : Settings) (z : SourceState) (next load length : ℕ) where
+  -- the lines of a call after those of its count
+  abbrev own : List Reason
+  own = reason 6 (outside s next) ∷ reason 7 (not (eqb load (z .count))) ∷ reason 8 (not (eqb length (frameBytes (s .k)))) ∷ []
+
+  -- a refusal of the count is the call's own,
+  refuses : (v : Verdict) (r : Refusal) → verdictNumber v ≡ startNumber s (z .count) → v ≡ Refused r → verdictNumber v ≡ sourceNumber s z next load length
+  unfolding startNumber sourceNumber
+  refuses v r e told = e ∙ sym (lowest-first (settingsReasons s ++ startReasons s (z .count)) own (refused-has-number v r _ e told))
+
+  -- and where it passes, the lines after it decide
+  decides : (v : Verdict) (n : ℕ) → verdictNumber v ≡ startNumber s (z .count) → v ≡ Accepted → lowest own ≡ n → n ≡ sourceNumber s z next load length
+  unfolding startNumber sourceNumber
+  decides v n e told own-is =
+      sym (lowest-second 0 (settingsReasons s ++ startReasons s (z .count)) own (start-ascending s (z .count)) (sym e ∙ ap verdictNumber told) ∙ own-is)
+
+judge-start-requires : tie.Need-judge-start-requires
+judge-start-requires c κs = search needs
 
 enum-told : tie.Need-enum-told
 enum-told c = search needs
@@ -18,77 +47,55 @@ enum-told-2 : tie.Need-enum-told-2
 enum-told-2 c = search needs
 
 returns : tie.Need-returns
-unfolding sourceNumber
 returns c =
     let g = c .before .before .before .args in
-    settings-refuse (g .settings) (sourceReasons (g .settings) (g .state) (g .next) (g .load) (g .length)) _ _ (c .before .before .judge .ensures) (c .enum-told2 .given .1)
+    refuses (g .settings) (g .state) (g .next) (g .load) (g .length) _ _ (c .before .before .judge-start .ensures) (c .enum-told2 .given .1)
 
 is-outside-requires : tie.Need-is-outside-requires
 is-outside-requires c κs = search needs
 
 returns-2 : tie.Need-returns-2
-unfolding sourceNumber
 returns-2 c =
     let g = c .before .before .before .before .before .args in
-    let own : lowest (sourceReasons (g .settings) (g .state) (g .next) (g .load) (g .length)) ≡ 5 =
-    simp (sym (c .before .is-outside .ensures) ∙ c .if1 .taken) in
-    sym (own-lines-decide (g .settings) (sourceReasons (g .settings) (g .state) (g .next) (g .load) (g .length)) (settings-pass (g .settings) _ (c .before .before .before .before .judge .ensures) (c .before .before .enum-told .given .1)) ∙ own)
+    decides (g .settings) (g .state) (g .next) (g .load) (g .length) _ 6 (c .before .before .before .before .judge-start .ensures) (c .before .before .enum-told .given .1)
+    (simp (sym (c .before .is-outside .ensures) ∙ c .if1 .taken))
 
-is-outside-requires-2 : tie.Need-is-outside-requires-2
-is-outside-requires-2 c κs = search needs
+cast-if2 : tie.Need-cast-if2
+cast-if2 c = search needs
 
 returns-3 : tie.Need-returns-3
-unfolding sourceNumber
 returns-3 c =
     let g = c .before .before .before .before .before .before .before .args in
-    let own : lowest (sourceReasons (g .settings) (g .state) (g .next) (g .load) (g .length)) ≡ 6 =
-    simp (sym (c .before .before .before .is-outside .ensures) ∙ c .before .before .if1 .left, sym (c .before .is-outside2 .ensures) ∙ c .if2 .taken) in
-    sym (own-lines-decide (g .settings) (sourceReasons (g .settings) (g .state) (g .next) (g .load) (g .length)) (settings-pass (g .settings) _ (c .before .before .before .before .before .before .judge .ensures) (c .before .before .before .before .enum-told .given .1)) ∙ own)
-
-cast-if3 : tie.Need-cast-if3
-cast-if3 c = search needs
-
-returns-4 : tie.Need-returns-4
-unfolding sourceNumber
-returns-4 c =
-    let g = c .before .before .before .before .before .before .before .before .before .args in
-    let own : lowest (sourceReasons (g .settings) (g .state) (g .next) (g .load) (g .length)) ≡ 7 =
-    simp (sym (c .before .before .before .before .before .is-outside .ensures) ∙ c .before .before .before .before .if1 .left, sym (c .before .before .before .is-outside2 .ensures) ∙ c .before .before .if2 .left, ne-eqb _ _ (c .if3 .taken)) in
-    sym (own-lines-decide (g .settings) (sourceReasons (g .settings) (g .state) (g .next) (g .load) (g .length)) (settings-pass (g .settings) _ (c .before .before .before .before .before .before .before .before .judge .ensures) (c .before .before .before .before .before .before .enum-told .given .1)) ∙ own)
+    decides (g .settings) (g .state) (g .next) (g .load) (g .length) _ 7 (c .before .before .before .before .before .before .judge-start .ensures) (c .before .before .before .before .enum-told .given .1)
+    (simp (sym (c .before .before .before .is-outside .ensures) ∙ c .before .before .if1 .left, ne-eqb _ _ (c .if2 .taken)))
 
 frame-length-requires : tie.Need-frame-length-requires
 frame-length-requires c κs = search needs
 
-returns-5 : tie.Need-returns-5
-unfolding sourceNumber
-returns-5 c =
-    let g = c .before .before .before .before .before .before .before .before .before .before .before .args in
-    let own : lowest (sourceReasons (g .settings) (g .state) (g .next) (g .load) (g .length)) ≡ 8 =
-    simp (sym (c .before .before .before .before .before .before .before .is-outside .ensures) ∙ c .before .before .before .before .before .before .if1 .left, sym (c .before .before .before .before .before .is-outside2 .ensures) ∙ c .before .before .before .before .if2 .left, eq-eqb _ _ (c .before .before .if3 .left), ne-eqb _ _ (λ e. c .if4 .taken (e ∙ sym (c .before .frame-length .ensures)))) in
-    sym (own-lines-decide (g .settings) (sourceReasons (g .settings) (g .state) (g .next) (g .load) (g .length)) (settings-pass (g .settings) _ (c .before .before .before .before .before .before .before .before .before .before .judge .ensures) (c .before .before .before .before .before .before .before .before .enum-told .given .1)) ∙ own)
+returns-4 : tie.Need-returns-4
+returns-4 c =
+    let g = c .before .before .before .before .before .before .before .before .before .args in
+    decides (g .settings) (g .state) (g .next) (g .load) (g .length) _ 8 (c .before .before .before .before .before .before .before .before .judge-start .ensures) (c .before .before .before .before .before .before .enum-told .given .1)
+    (simp (sym (c .before .before .before .before .before .is-outside .ensures) ∙ c .before .before .before .before .if1 .left, eq-eqb _ _ (c .before .before .if2 .left), ne-eqb _ _ (λ e. c .if3 .taken (e ∙ sym (c .before .frame-length .ensures)))))
 
-returns-6 : tie.Need-returns-6
-unfolding sourceNumber
-returns-6 c =
-    let g = c .before .before .before .before .before .before .before .before .before .before .before .args in
-    let own : lowest (sourceReasons (g .settings) (g .state) (g .next) (g .load) (g .length)) ≡ 0 =
-    simp (sym (c .before .before .before .before .before .before .before .is-outside .ensures) ∙ c .before .before .before .before .before .before .if1 .left, sym (c .before .before .before .before .before .is-outside2 .ensures) ∙ c .before .before .before .before .if2 .left, eq-eqb _ _ (c .before .before .if3 .left), eq-eqb _ _ (c .if4 .left ∙ c .before .frame-length .ensures)) in
-    sym (own-lines-decide (g .settings) (sourceReasons (g .settings) (g .state) (g .next) (g .load) (g .length)) (settings-pass (g .settings) _ (c .before .before .before .before .before .before .before .before .before .before .judge .ensures) (c .before .before .before .before .before .before .before .before .enum-told .given .1)) ∙ own)
+returns-5 : tie.Need-returns-5
+returns-5 c =
+    let g = c .before .before .before .before .before .before .before .before .before .args in
+    decides (g .settings) (g .state) (g .next) (g .load) (g .length) _ 0 (c .before .before .before .before .before .before .before .before .judge-start .ensures) (c .before .before .before .before .before .before .enum-told .given .1)
+    (simp (sym (c .before .before .before .before .before .is-outside .ensures) ∙ c .before .before .before .before .if1 .left, eq-eqb _ _ (c .before .before .if2 .left), eq-eqb _ _ (c .if3 .left ∙ c .before .frame-length .ensures)))
 
 pub judge-call-spec : {M : Type 1} → statement M
 judge-call-spec =
     tie.close
     (tie.spec
-    judge-requires
+    judge-start-requires
     enum-told
     enum-told-2
     returns
     is-outside-requires
     returns-2
-    is-outside-requires-2
+    cast-if2
     returns-3
-    cast-if3
-    returns-4
     frame-length-requires
-    returns-5
-    returns-6)
+    returns-4
+    returns-5)

@@ -20,7 +20,7 @@ returns : tie.Need-returns
 unfolding startNumber
 returns c =
     let g = c .before .before .before .args in
-    settings-refuse (g .settings) (startReasons (g .settings) (g .first)) _ _ (c .before .before .judge .ensures) (c .enum-told2 .given .1)
+    settings-refuse (g .settings) (startReasons (g .settings) (g .count)) _ _ (c .before .before .judge .ensures) (c .enum-told2 .given .1)
 
 is-outside-requires : tie.Need-is-outside-requires
 is-outside-requires c κs = search needs
@@ -29,17 +29,17 @@ returns-2 : tie.Need-returns-2
 unfolding startNumber
 returns-2 c =
     let g = c .before .before .before .before .before .args in
-    let own : lowest (startReasons (g .settings) (g .first)) ≡ 5 =
+    let own : lowest (startReasons (g .settings) (g .count)) ≡ 5 =
     simp (sym (c .before .is-outside .ensures) ∙ c .if1 .taken) in
-    sym (own-lines-decide (g .settings) (startReasons (g .settings) (g .first)) (settings-pass (g .settings) _ (c .before .before .before .before .judge .ensures) (c .before .before .enum-told .given .1)) ∙ own)
+    sym (own-lines-decide (g .settings) (startReasons (g .settings) (g .count)) (settings-pass (g .settings) _ (c .before .before .before .before .judge .ensures) (c .before .before .enum-told .given .1)) ∙ own)
 
 returns-3 : tie.Need-returns-3
 unfolding startNumber
 returns-3 c =
     let g = c .before .before .before .before .before .args in
-    let own : lowest (startReasons (g .settings) (g .first)) ≡ 0 =
+    let own : lowest (startReasons (g .settings) (g .count)) ≡ 0 =
     simp (sym (c .before .is-outside .ensures) ∙ c .if1 .left) in
-    sym (own-lines-decide (g .settings) (startReasons (g .settings) (g .first)) (settings-pass (g .settings) _ (c .before .before .before .before .judge .ensures) (c .before .before .enum-told .given .1)) ∙ own)
+    sym (own-lines-decide (g .settings) (startReasons (g .settings) (g .count)) (settings-pass (g .settings) _ (c .before .before .before .before .judge .ensures) (c .before .before .enum-told .given .1)) ∙ own)
 
 pub judge-start-spec : {M : Type 1} → statement M
 judge-start-spec =
