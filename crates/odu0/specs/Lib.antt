@@ -1,3 +1,0 @@
--- The mapper's values as the plain numbers that C and Rust see. Assumes nothing.
-pub mod Numbers
-pub mod Lossless
