@@ -42,11 +42,16 @@ pub fn argument(i: usize) -> Number {
     decimal::parse(&text[..n])
 }
 
-// Writes a number to standard error, with a text before it and one behind it.
-pub fn say(before: &[u8], n: u64, behind: &[u8]) {
-    io::write_all(STDERR_FILENO, before);
+// Writes a text and a number behind it to standard error.
+pub fn say(text: &[u8], n: u64) {
+    io::write_all(STDERR_FILENO, text);
     io::print_decimal(STDERR_FILENO, n);
-    io::write_all(STDERR_FILENO, behind);
+}
+
+// The same, and ends the line.
+pub fn say_line(text: &[u8], n: u64) {
+    say(text, n);
+    io::write_all(STDERR_FILENO, b"\n");
 }
 
 // Says how many bytes were left where the input ended within a block, if there were any.
@@ -54,7 +59,8 @@ pub fn say_left(name: &[u8], left: usize) {
     if left == 0 {
         return;
     }
-    say(name, left as u64, b" bytes left at the end\n");
+    say(name, left as u64);
+    io::write_all(STDERR_FILENO, b" bytes left at the end\n");
 }
 
 // Writes bytes to standard output, or says on standard error why that failed.
