@@ -1,16 +1,17 @@
 -- A mapper that the keeper lets begin goes on for ever: neither the keeper nor the source refuses a call. Assumes nothing.
-use mathlib.Core.Path.{_≡_, refl, sym, ap, ap₂, _∙_}
+use mathlib.Core.Path.{_≡_, refl, sym, ap, ap₂, subst, _∙_}
 use mathlib.Core.Bool.{Bool, true, false, not}
-use mathlib.Core.List.{List}
-use Prim.Native.Nat.{ℕ, _+_, _≤_, _<_}
+use mathlib.Core.List.{List, [], _∷_}
+use Prim.Native.Nat.{ℕ, _+_, _-_, _*_, _≤_, _<_}
 use native.Mathlib.Nat.{mod-lt}
 use native.Mathlib.Omega.{arith}
 use lib.Dec.{eqb, lit<}
-use lib.ListN.{length}
+use lib.ListN.{length, getD}
 use borrow.Author.Tests.{eqb-true, eq-eqb, lt-leb}
 use Rattle.bits.specs.Choice.{pick}
 use Rattle.settings.specs.declared.Settings.{Settings}
 use Rattle.settings.specs.declared.Refusal.{Refusal}
+use Rattle.settings.specs.declared.Refusal.the-variants.{Grid, Window, Divisor, Rate as BadRate, State, Count, Client, Frame, Space}
 use Rattle.settings.specs.Refusals.{refusalNumber, accepted, refused, answerBy}
 use Rattle.settings.specs.Settings.{opu0, outside}
 use Rattle.settings.proofs.Laws.{none-applies, all-passed, inside-window}
@@ -174,3 +175,29 @@ unfolding startAnswer
 starts-ready a m e =
     let g = by-number (refusalFrom a (firstRemainder (a .q))) m (newMapper a) e in
     goes-on a (firstRemainder (a .q)) m (g .0) (ap (λ (y : Mapper). y .source .count) (g .1)) (ap (λ (y : Mapper). y .remainder) (g .1))
+
+-- how many letters the refusals' words have, and where in their text the word with a number ends
+abbrev letters : List ℕ
+letters = 4 ∷ 6 ∷ 7 ∷ 4 ∷ 5 ∷ 5 ∷ 6 ∷ 5 ∷ 5 ∷ []
+
+abbrev end : ℕ → ℕ
+end n = 7 * (n - 1) + getD letters (n - 1) 0
+
+pub record Worded (n : ℕ) : Type 0 where
+  pub from-one : 1 ≤ n
+  pub to-nine : n ≤ 9
+  pub within : end n ≤ 63
+
+numbered : (x : Refusal) → Worded (refusalNumber x)
+numbered Grid = record { from-one = omega arith; to-nine = omega arith; within = omega arith }
+numbered Window = record { from-one = omega arith; to-nine = omega arith; within = omega arith }
+numbered Divisor = record { from-one = omega arith; to-nine = omega arith; within = omega arith }
+numbered BadRate = record { from-one = omega arith; to-nine = omega arith; within = omega arith }
+numbered State = record { from-one = omega arith; to-nine = omega arith; within = omega arith }
+numbered Count = record { from-one = omega arith; to-nine = omega arith; within = omega arith }
+numbered Client = record { from-one = omega arith; to-nine = omega arith; within = omega arith }
+numbered Frame = record { from-one = omega arith; to-nine = omega arith; within = omega arith }
+numbered Space = record { from-one = omega arith; to-nine = omega arith; within = omega arith }
+
+pub worded : (x : Refusal) (n : ℕ) → n ≡ refusalNumber x → Worded n
+worded x n e = subst Worded (sym e) (numbered x)

@@ -15,6 +15,11 @@ ghost use lib.ListN.{length};
 ghost use Rattle.settings.specs.Settings.{opu0};
 ghost use Rattle.odu0map.specs.Mapping.{Ready, startTold, startAnswer, Goes, Maps};
 
+// The words of the refusals in the order of their numbers, each in 7 bytes, and how many letters each has.
+const WORDS: [u8; 63] = *b"grid   window divisorrate   state  count  client frame  space  ";
+
+const LETTERS: [usize; 9] = [4, 6, 7, 4, 5, 5, 6, 5, 5];
+
 // The rate p / q.
 struct Rate {
     p: u32,
@@ -143,17 +148,20 @@ fn take_load(rate: Rate, mapper: Mapper, client: &mut [u8]) -> Next
 {
     let load = &mut client[..mapper.source.count as usize];
     let got = stream::gather(STDIN_FILENO, load);
-    match got {
-        Got::Whole => map_load(rate, mapper, load),
-        Got::Rest(left) => {
-            stream::say_left(b"odu0map: ", left);
-            Next::End
-        }
-        Got::Failed => {
-            os::fail(b"odu0map: standard input");
-            Next::End
-        }
-    }
+    let Got::Whole = got else {
+        show_end(got);
+        return Next::End;
+    };
+    map_load(rate, mapper, load)
+}
+
+// Says what is left where the input ends, or why it could not be read.
+fn show_end(got: Got) {
+    let Got::Rest(left) = got else {
+        os::fail(b"odu0map: standard input");
+        return;
+    };
+    stream::say_left(b"odu0map: ", left);
 }
 
 // Maps a load and writes its frame. Where that fails nothing more is mapped.
@@ -201,8 +209,8 @@ fn opu0() -> Settings
 
 // Says how many frames were written, and how many client bytes they carry.
 fn show_totals(frames: u64, bytes: u64) {
-    stream::say(b"odu0map: frames ", frames, b"");
-    stream::say(b", bytes ", bytes, b"\n");
+    stream::say(b"odu0map: frames ", frames);
+    stream::say_line(b", bytes ", bytes);
 }
 
 // Says why there is no mapper, by the word and the number of the refusal.
@@ -212,25 +220,18 @@ fn show_refusal(refusal: Refusal) {
     stream::say(
         b" (number ",
         settings::number(Verdict::Refused(refusal)) as u64,
-        b")\n",
     );
+    io::write_all(STDERR_FILENO, b")\n");
     show_usage();
 }
 
 // Writes the word of a refusal to standard error.
 fn show_word(refusal: Refusal) {
-    match refusal {
-        Refusal::Grid => io::write_all(STDERR_FILENO, b"grid"),
-        Refusal::Window => io::write_all(STDERR_FILENO, b"window"),
-        Refusal::Divisor => io::write_all(STDERR_FILENO, b"divisor"),
-        Refusal::Rate => io::write_all(STDERR_FILENO, b"rate"),
-        Refusal::State => io::write_all(STDERR_FILENO, b"state"),
-        Refusal::Count => io::write_all(STDERR_FILENO, b"count"),
-        Refusal::Client => io::write_all(STDERR_FILENO, b"client"),
-        Refusal::Frame => io::write_all(STDERR_FILENO, b"frame"),
-        Refusal::Space => io::write_all(STDERR_FILENO, b"space"),
-    }
-    ;
+    let place = settings::number(Verdict::Refused(refusal)) as usize - 1;
+    let words: &[u8] = &WORDS;
+    let start = 7 * place;
+    let end = start + LETTERS[place];
+    io::write_all(STDERR_FILENO, &words[start..end]);
 }
 
 // Says how the program is called.

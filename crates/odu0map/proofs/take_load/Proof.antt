@@ -26,29 +26,8 @@ gather-requires c κs = search needs
 enum-told : tie.Need-enum-told
 enum-told c = search needs
 
-map-load-requires : tie.Need-map-load-requires
-map-load-requires c κs =
-    let start = c .before .before .before .before .before .before .before .before .before .before in
-    let g = start .args in
-    (start .pre .0, omega (arith, ready-le (g .rate) (g .mapper) (start .pre .0), start .pre .1, length-take (g .mapper .source .count) (g .client .now)))
-
-enum-known-got : tie.Need-enum-known-got
-enum-known-got c = search needs
-
-slice-aggregate-say-left : tie.Need-slice-aggregate-say-left
-slice-aggregate-say-left c = search needs
-
-say-left-requires : tie.Need-say-left-requires
-say-left-requires c κs = search needs
-
-enum-told-2 : tie.Need-enum-told-2
-enum-told-2 c = search needs
-
-slice-aggregate-fail : tie.Need-slice-aggregate-fail
-slice-aggregate-fail c = search needs
-
-fail-requires : tie.Need-fail-requires
-fail-requires c κs = search needs
+show-end-requires : tie.Need-show-end-requires
+show-end-requires c κs = search needs
 
 same-length : tie.Need-same-length
 same-length c = search needs
@@ -56,17 +35,17 @@ same-length c = search needs
 returns : tie.Need-returns
 returns c = search needs
 
+map-load-requires : tie.Need-map-load-requires
+map-load-requires c κs =
+    let start = c .before .before .before .before .before .before .before .before .before .before in
+    let g = start .args in
+    (start .pre .0, omega (arith, ready-le (g .rate) (g .mapper) (start .pre .0), start .pre .1, length-take (g .mapper .source .count) (g .client .now)))
+
 same-length-2 : tie.Need-same-length-2
 same-length-2 c = search needs
 
 returns-2 : tie.Need-returns-2
 returns-2 c = search needs
-
-same-length-3 : tie.Need-same-length-3
-same-length-3 c = search needs
-
-returns-3 : tie.Need-returns-3
-returns-3 c = search needs
 
 pub take-load-spec : {M : Type 1} → statement M
 take-load-spec =
@@ -77,16 +56,9 @@ take-load-spec =
     slice-aggregate-load
     gather-requires
     enum-told
-    map-load-requires
-    enum-known-got
-    slice-aggregate-say-left
-    say-left-requires
-    enum-told-2
-    slice-aggregate-fail
-    fail-requires
+    show-end-requires
     same-length
     returns
+    map-load-requires
     same-length-2
-    returns-2
-    same-length-3
-    returns-3)
+    returns-2)
