@@ -14,6 +14,11 @@ ghost use lib.ListN.{length};
 ghost use Rattle.standings.specs.Standing.{said};
 ghost use Rattle.odu0demap.specs.Demapping.{newDemapper, sameCount, isSame, Goes, Takes};
 
+// The words of the standings in the order of their numbers, each in 8 bytes, and how many letters each has.
+const WORDS: [u8; 48] = *b"READ    TRACKED PAIRED  BADCHECKWAITING OUTSIDE ";
+
+const LETTERS: [usize; 6] = [4, 7, 6, 8, 7, 7];
+
 // The sink's state, the card's tally, and the number of the last standing's word, 0 before the first frame.
 struct Demapper {
     state: SinkState,
@@ -81,17 +86,20 @@ fn new_demapper() -> Demapper
 fn take_next(number: u64, demapper: Demapper) -> Next {
     let mut frame = [0u8; 15240];
     let got = stream::gather(STDIN_FILENO, &mut frame);
-    match got {
-        Got::Whole => take_frame(number, demapper, &frame),
-        Got::Rest(left) => {
-            stream::say_left(b"odu0demap: ", left);
-            Next::End
-        }
-        Got::Failed => {
-            os::fail(b"odu0demap: standard input");
-            Next::End
-        }
-    }
+    let Got::Whole = got else {
+        show_end(got);
+        return Next::End;
+    };
+    take_frame(number, demapper, &frame)
+}
+
+// Says what is left where the input ends, or why it could not be read.
+fn show_end(got: Got) {
+    let Got::Rest(left) = got else {
+        os::fail(b"odu0demap: standard input");
+        return;
+    };
+    stream::say_left(b"odu0demap: ", left);
 }
 
 // Takes a frame, says how its standing changed and writes its client bytes. Where that fails no more is handed out.
@@ -150,14 +158,19 @@ fn show_change(number: u64, before: Demapper, standing: Standing) {
     if is_same(before, standing) {
         return;
     }
-    stream::say(b"frame ", number, b": ");
+    stream::say(b"frame ", number);
+    io::write_all(STDERR_FILENO, b": ");
     show_word(standing);
-    let count = standings::found_count(standing);
+    show_count(standings::found_count(standing));
+}
+
+// Ends a line with the count found, or "-" where there is none.
+fn show_count(count: Count) {
     let Count::Known(n) = count else {
         io::write_all(STDERR_FILENO, b" -\n");
         return;
     };
-    stream::say(b" ", n as u64, b"\n");
+    stream::say_line(b" ", n as u64);
 }
 
 // Whether a standing is that of the frame before: the same word, and the same count found, which the sink's state has kept.
@@ -190,20 +203,16 @@ fn is_same_count(one: Count, other: Count) -> bool
 
 // Writes the word of a standing to standard error.
 fn show_word(standing: Standing) {
-    match standing {
-        Standing::Read(_) => io::write_all(STDERR_FILENO, b"READ"),
-        Standing::Tracked(_) => io::write_all(STDERR_FILENO, b"TRACKED"),
-        Standing::Paired(_) => io::write_all(STDERR_FILENO, b"PAIRED"),
-        Standing::BadCheck => io::write_all(STDERR_FILENO, b"BADCHECK"),
-        Standing::Waiting => io::write_all(STDERR_FILENO, b"WAITING"),
-        Standing::Outside => io::write_all(STDERR_FILENO, b"OUTSIDE"),
-    }
-    ;
+    let place = standings::standing_number(standing) as usize - 1;
+    let words: &[u8] = &WORDS;
+    let start = 8 * place;
+    let end = start + LETTERS[place];
+    io::write_all(STDERR_FILENO, &words[start..end]);
 }
 
 // Says the tally: frames taken, BADCHECK frames and bytes handed out.
 fn show_tally(tally: Tally) {
-    stream::say(b"odu0demap: frames ", tally.frames as u64, b"");
-    stream::say(b", BADCHECK ", tally.bad as u64, b"");
-    stream::say(b", bytes ", tally.bytes as u64, b"\n");
+    stream::say(b"odu0demap: frames ", tally.frames as u64);
+    stream::say(b", BADCHECK ", tally.bad as u64);
+    stream::say_line(b", bytes ", tally.bytes as u64);
 }
