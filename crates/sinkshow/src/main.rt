@@ -14,6 +14,11 @@ ghost use Rattle.standings.specs.Standing.{said};
 ghost use Rattle.sinkshow.specs.Lines.{decimal, countText, numbersText, standingText, restLine};
 ghost use Rattle.sinkshow.specs.Show.{Puts, Shows};
 
+// The words of the standings in the order of their numbers, each in 8 bytes, and how many letters each has.
+const WORDS: [u8; 48] = *b"READ    TRACKED PAIRED  BADCHECKWAITING OUTSIDE ";
+
+const LETTERS: [usize; 6] = [4, 7, 6, 8, 7, 7];
+
 // The length of a frame's line, and the sink's state after the frame.
 struct Shown {
     length: usize,
@@ -44,17 +49,20 @@ fn main() {
 fn show_next(number: u64, state: SinkState) -> Next {
     let mut frame = [0u8; 16];
     let got = stream::gather(STDIN_FILENO, &mut frame);
-    match got {
-        Got::Whole => show_frame(number, state, &frame),
-        Got::Rest(left) => {
-            show_rest(left);
-            Next::End
-        }
-        Got::Failed => {
-            os::fail(b"sinkshow: standard input");
-            Next::End
-        }
-    }
+    let Got::Whole = got else {
+        show_end(got);
+        return Next::End;
+    };
+    show_frame(number, state, &frame)
+}
+
+// Shows what is left where the input ends, or says why it could not be read.
+fn show_end(got: Got) {
+    let Got::Rest(left) = got else {
+        os::fail(b"sinkshow: standard input");
+        return;
+    };
+    show_rest(left);
 }
 
 // Takes a frame and writes its line. Where that fails nothing more is shown. Three numbers of up to 20 digits, a word of up to 8 letters
@@ -117,7 +125,8 @@ fn put_rest(line: &mut [u8], left: usize) -> usize
 {
     let a = put(line, 0, b"LEFT ");
     let b = put_number(line, a, left as u64);
-    put(line, b, b"\n")
+    line[b] = b'\n';
+    b + 1
 }
 
 // Begins a line with the frame number and the number of bytes handed out, a space behind each, and gives its length so far.
@@ -126,9 +135,10 @@ fn put_numbers(line: &mut [u8], number: u64, handed: u32) -> usize
     ensures { λ r. ⌜ Puts (now (line .entry)) 0 (numbersText number handed) r (now (line .exit)) ⌝ }
 {
     let a = put_number(line, 0, number);
-    let b = put(line, a, b" ");
-    let c = put_number(line, b, handed as u64);
-    put(line, c, b" ")
+    line[a] = b' ';
+    let b = put_number(line, a + 1, handed as u64);
+    line[b] = b' ';
+    b + 1
 }
 
 // Ends a line of `at` bytes so far with the standing, a space, its count or "-" and a newline, and gives the line's length.
@@ -137,9 +147,10 @@ fn put_standing(line: &mut [u8], at: usize, standing: Standing) -> usize
     ensures { λ r. ⌜ Puts (now (line .entry)) at (standingText (said standing)) r (now (line .exit)) ⌝ }
 {
     let a = put_word(line, at, standing);
-    let b = put(line, a, b" ");
-    let c = put_count(line, b, standing);
-    put(line, c, b"\n")
+    line[a] = b' ';
+    let b = put_count(line, a + 1, standing);
+    line[b] = b'\n';
+    b + 1
 }
 
 // Puts the word of a standing behind the first `at` bytes of a line, and gives the length then.
@@ -147,14 +158,11 @@ fn put_word(line: &mut [u8], at: usize, standing: Standing) -> usize
     requires { ⌜ at + 8 ≤ length (now line) ⌝ }
     ensures { λ r. ⌜ Puts (now (line .entry)) at (said standing .name) r (now (line .exit)) ⌝ }
 {
-    match standing {
-        Standing::Read(_) => put(line, at, b"READ"),
-        Standing::Tracked(_) => put(line, at, b"TRACKED"),
-        Standing::Paired(_) => put(line, at, b"PAIRED"),
-        Standing::BadCheck => put(line, at, b"BADCHECK"),
-        Standing::Waiting => put(line, at, b"WAITING"),
-        Standing::Outside => put(line, at, b"OUTSIDE"),
-    }
+    let place = standings::standing_number(standing) as usize - 1;
+    let words: &[u8] = &WORDS;
+    let start = 8 * place;
+    let end = start + LETTERS[place];
+    put(line, at, &words[start..end])
 }
 
 // Puts the count that a standing found there, or "-" where it found none.

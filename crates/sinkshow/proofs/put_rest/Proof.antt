@@ -1,7 +1,9 @@
 -- `sinkshow::put_rest` meets its contract. Assumes nothing.
+use mathlib.Core.Path.{_∙_}
 use native.Mathlib.Omega.{arith}
+use lib.ListN.{length-set}
 use borrow.Author.Needs.{needs}
-use Rattle.sinkshow.proofs.Laws.{puts-append, decimal-within}
+use Rattle.sinkshow.proofs.Laws.{puts-append, puts-byte, decimal-within}
 use Rattle.sinkshow.proofs.put_rest.Statement.{statement}
 use Rattle.sinkshow.proofs.put_rest.Tie as tie
 
@@ -14,24 +16,28 @@ put-requires c κs = search needs
 put-number-requires : tie.Need-put-number-requires
 put-number-requires c κs = search needs
 
-slice-aggregate-put-2 : tie.Need-slice-aggregate-put-2
-slice-aggregate-put-2 c = search needs
+slice-write-line : tie.Need-slice-write-line
+slice-write-line c =
+    let left = c .before .before .before .before .before .before .before .before .before .before .args .left in
+    let p = c .before .before .before .before .before .before .put .ensures in
+    let q = c .before .before .put-number .ensures in
+    omega (arith, p .next, p .kept, q .next, q .kept, decimal-within left)
 
-put-requires-2 : tie.Need-put-requires-2
-put-requires-2 c κs =
-    let n = c .before .before .before .before .before .before .before .before .before .before .before .before .args .left in
-    let q = c .before .before .before .before .before .before .before .before .put .ensures in
-    let p = c .before .before .before .before .put-number .ensures in
-    omega (arith, q .next, q .kept, p .next, p .kept, decimal-within n)
+add-result : tie.Need-add-result
+add-result c = search needs
 
 same-length : tie.Need-same-length
-same-length c = search needs
+same-length c =
+    let p = c .before .before .before .before .before .before .put .ensures in
+    let q = c .before .before .put-number in
+    length-set (q .last .0) (q .result) 10 ∙ q .ensures .kept ∙ p .kept
 
 returns : tie.Need-returns
 returns c =
-    let left = c .before .before .before .before .before .before .before .before .before .before .before .put .ensures in
-    let number = c .before .before .before .before .before .before .before .put-number .ensures in
-    puts-append (puts-append left number) (c .before .before .put2 .ensures)
+    let left = c .before .before .before .before .before .before .before .before .before .before .args .left in
+    let p = c .before .before .before .before .before .before .put .ensures in
+    let q = c .before .before .put-number .ensures in
+    puts-byte (puts-append p q) 10 (omega (arith, p .next, p .kept, q .next, q .kept, decimal-within left))
 
 pub put-rest-spec : {M : Type 1} → statement M
 put-rest-spec =
@@ -40,7 +46,7 @@ put-rest-spec =
     slice-aggregate-put
     put-requires
     put-number-requires
-    slice-aggregate-put-2
-    put-requires-2
+    slice-write-line
+    add-result
     same-length
     returns)

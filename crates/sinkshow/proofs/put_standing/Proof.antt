@@ -1,60 +1,68 @@
 -- `sinkshow::put_standing` meets its contract. Assumes nothing.
+use mathlib.Core.Path.{_∙_}
 use native.Mathlib.Omega.{arith}
+use lib.ListN.{length-set}
 use borrow.Author.Needs.{needs}
 use Rattle.standings.specs.Standing.{said}
-use Rattle.sinkshow.proofs.Laws.{puts-append, word-within, count-within}
+use Rattle.sinkshow.proofs.Laws.{puts-append, puts-byte, word-within, count-within}
 use Rattle.sinkshow.proofs.put_standing.Statement.{statement}
 use Rattle.sinkshow.proofs.put_standing.Tie as tie
 
 put-word-requires : tie.Need-put-word-requires
 put-word-requires c κs = search needs
 
-slice-aggregate-put : tie.Need-slice-aggregate-put
-slice-aggregate-put c = search needs
+slice-write-line : tie.Need-slice-write-line
+slice-write-line c =
+    let g = c .before .before .before .before .before .args in
+    let p = c .before .before .put-word in
+    omega (arith, p .ensures .next, p .ensures .kept, word-within (g .standing))
 
-put-requires : tie.Need-put-requires
-put-requires c κs =
-    let x = c .before .before .before .before .before .before .before .args .standing in
-    let p = c .before .before .before .before .put-word .ensures in
-    omega (arith, p .next, p .kept, word-within x)
+add-put-count : tie.Need-add-put-count
+add-put-count c = search needs
 
 put-count-requires : tie.Need-put-count-requires
 put-count-requires c κs =
-    let x = c .before .before .before .before .before .before .before .before .before .before .before .args .standing in
-    let p = c .before .before .before .before .before .before .before .before .put-word .ensures in
-    let q = c .before .before .before .put .ensures in
-    omega (arith, p .next, p .kept, q .next, q .kept, word-within x)
+    let g = c .before .before .before .before .before .before .args in
+    let p = c .before .before .before .put-word in
+    omega (arith, p .ensures .next, p .ensures .kept, length-set (p .last .0) (p .result) 32, word-within (g .standing))
 
-slice-aggregate-put-2 : tie.Need-slice-aggregate-put-2
-slice-aggregate-put-2 c = search needs
+slice-write-line-2 : tie.Need-slice-write-line-2
+slice-write-line-2 c =
+    let g = c .before .before .before .before .before .before .before .before .before .args in
+    let p = c .before .before .before .before .before .before .put-word in
+    let q = c .before .before .put-count in
+    omega (arith, p .ensures .next, p .ensures .kept, length-set (p .last .0) (p .result) 32, word-within (g .standing), q .ensures .next, q .ensures .kept, count-within (said (g .standing) .count))
 
-put-requires-2 : tie.Need-put-requires-2
-put-requires-2 c κs =
-    let x = c .before .before .before .before .before .before .before .before .before .before .before .before .before .before .before .before .args .standing in
-    let p = c .before .before .before .before .before .before .before .before .before .before .before .before .before .put-word .ensures in
-    let q = c .before .before .before .before .before .before .before .before .put .ensures in
-    let s = c .before .before .before .before .put-count .ensures in
-    omega (arith, p .next, p .kept, q .next, q .kept, s .next, s .kept, word-within x, count-within (said x .count))
+add-result : tie.Need-add-result
+add-result c =
+    let g = c .before .before .before .before .before .before .before .before .before .args in
+    let p = c .before .before .before .before .before .before .put-word in
+    let q = c .before .before .put-count in
+    record { fits = omega (arith, p .ensures .next, p .ensures .kept, length-set (p .last .0) (p .result) 32, word-within (g .standing), q .ensures .next, q .ensures .kept, count-within (said (g .standing) .count)) }
 
 same-length : tie.Need-same-length
-same-length c = search needs
+same-length c =
+    let p = c .before .before .before .before .before .before .put-word in
+    let q = c .before .before .put-count in
+    length-set (q .last .0) (q .result) 10 ∙ q .ensures .kept ∙ length-set (p .last .0) (p .result) 32 ∙ p .ensures .kept
 
 returns : tie.Need-returns
 returns c =
-    let word = c .before .before .before .before .before .before .before .before .before .before .before .before .before .before .before .before .put-word .ensures in
-    let space = c .before .before .before .before .before .before .before .before .before .before .before .put .ensures in
-    let count = c .before .before .before .before .before .before .before .put-count .ensures in
-    puts-append (puts-append (puts-append word space) count) (c .before .before .put2 .ensures)
+    let g = c .before .before .before .before .before .before .before .before .before .args in
+    let p = c .before .before .before .before .before .before .put-word in
+    let q = c .before .before .put-count in
+    let space = puts-byte (p .ensures) 32 (omega (arith, p .ensures .next, p .ensures .kept, word-within (g .standing))) in
+    puts-byte (puts-append space (q .ensures)) 10 (omega (arith, p .ensures .next, p .ensures .kept, length-set (p .last .0) (p .result) 32, word-within (g .standing), q .ensures .next, q .ensures .kept, count-within (said (g .standing) .count)))
 
 pub put-standing-spec : {M : Type 1} → statement M
 put-standing-spec =
     tie.close
     (tie.spec
     put-word-requires
-    slice-aggregate-put
-    put-requires
+    slice-write-line
+    add-put-count
     put-count-requires
-    slice-aggregate-put-2
-    put-requires-2
+    slice-write-line-2
+    add-result
     same-length
     returns)
