@@ -6,18 +6,15 @@ use settings::Settings;
 use sink::SinkAnswer;
 use sink::SinkState;
 use standings::Count;
+use standings::LETTERS;
 use standings::Standing;
+use standings::WORDS;
 use stream::Got;
 use tally::Tally;
 ghost use mathlib.Core.Path.{_≡_};
 ghost use lib.ListN.{length};
 ghost use Rattle.standings.specs.Standing.{said};
 ghost use Rattle.odu0demap.specs.Demapping.{newDemapper, sameCount, isSame, Goes, Takes};
-
-// The words of the standings in the order of their numbers, each in 8 bytes, and how many letters each has.
-const WORDS: [u8; 48] = *b"READ    TRACKED PAIRED  BADCHECKWAITING OUTSIDE ";
-
-const LETTERS: [usize; 6] = [4, 7, 6, 8, 7, 7];
 
 // The sink's state, the card's tally, and the number of the last standing's word, 0 before the first frame.
 struct Demapper {

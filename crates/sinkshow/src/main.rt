@@ -5,7 +5,9 @@ use settings::Settings;
 use sink::SinkAnswer;
 use sink::SinkState;
 use standings::Count;
+use standings::LETTERS;
 use standings::Standing;
+use standings::WORDS;
 use stream::Got;
 ghost use mathlib.Core.Path.{_≡_};
 ghost use Prim.Native.Nat.{_+_, _≤_};
@@ -13,11 +15,6 @@ ghost use lib.ListN.{length};
 ghost use Rattle.standings.specs.Standing.{said};
 ghost use Rattle.sinkshow.specs.Lines.{decimal, countText, numbersText, standingText, restLine};
 ghost use Rattle.sinkshow.specs.Show.{Puts, Shows};
-
-// The words of the standings in the order of their numbers, each in 8 bytes, and how many letters each has.
-const WORDS: [u8; 48] = *b"READ    TRACKED PAIRED  BADCHECKWAITING OUTSIDE ";
-
-const LETTERS: [usize; 6] = [4, 7, 6, 8, 7, 7];
 
 // The length of a frame's line, and the sink's state after the frame.
 struct Shown {

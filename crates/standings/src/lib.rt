@@ -20,6 +20,11 @@ pub enum Standing {
     Outside,
 }
 
+// The words of the standings in the order of their numbers, each in 8 bytes, and how many letters each has.
+pub const WORDS: [u8; 48] = *b"READ    TRACKED PAIRED  BADCHECKWAITING OUTSIDE ";
+
+pub const LETTERS: [usize; 6] = [4, 7, 6, 8, 7, 7];
+
 // The count, where it is known and inside the window.
 pub fn known_count(settings: Settings, count: Count) -> Count
     ensures { λ r. ⌜ r ≡ inside settings count ⌝ }
