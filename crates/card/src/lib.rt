@@ -41,7 +41,7 @@ pub fn count_call(
 ) -> Counted
     ensures { λ r. ⌜ CallPromise settings state (now (frame .entry)) (now (out .entry)) tally (r .result) (now (out .exit)) (r .tally) ⌝ }
 {
-    let result = sink::take_frame(settings, state, frame, out);
+    let result = demapping::take_frame(settings, state, frame, out);
     let answer = result.answer;
     Counted {
         result: result,

@@ -32,7 +32,7 @@ pub extern "C" fn odu0_source_call(
     ensures { λ r. ⌜ (r ≡ sourceReply settings state next (now (client .entry)) (now (frame .entry)))
         × (now (frame .exit) ≡ sourceFrame settings state next (now (client .entry)) (now (frame .entry))) ⌝ }
 {
-    let result = source::source_call(settings, state, next, client, frame);
+    let result = mapping::source_call(settings, state, next, client, frame);
     let verdict = result.answer;
     let after = result.state;
     SourceReply {

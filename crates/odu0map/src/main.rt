@@ -188,7 +188,7 @@ fn make_frame(rate: Rate, mapper: Mapper, load: &[u8], frame: &mut [u8]) -> Mapp
         return mapper;
     };
     let source = mapper.source;
-    let result = source::source_call(opu0(), source, next, load, frame);
+    let result = mapping::source_call(opu0(), source, next, load, frame);
     let after = result.state;
     Mapper {
         source: after,

@@ -12,7 +12,7 @@ use Rattle.settings.specs.Refusals.{verdictNumber, accepts}
 use Rattle.tally.specs.declared.Tally.{Tally}
 use Rattle.source.specs.declared.SourceState.{SourceState}
 use Rattle.source.specs.declared.SourceResult.{SourceResult}
-use Rattle.source.proofs.source_call.Reads as source-call
+use Rattle.mapping.proofs.source_call.Reads as source-call
 use Rattle.sink.specs.declared.SinkState.{SinkState}
 use Rattle.sink.specs.Sink.{told}
 use Rattle.card.specs.declared.Counted.{Counted}

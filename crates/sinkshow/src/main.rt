@@ -99,7 +99,7 @@ fn take_frame(number: u64, state: SinkState, frame: &[u8], line: &mut [u8]) -> S
 {
     let settings = Settings { k: 2, lo: 0, hi: 8 };
     let mut out = [0u8; 8];
-    let result = sink::take_frame(settings, state, frame, &mut out);
+    let result = demapping::take_frame(settings, state, frame, &mut out);
     let answer = result.answer;
     let after = result.state;
     let SinkAnswer::Done(standing) = answer else {

@@ -1,4 +1,4 @@
--- `source::judge_call` meets its contract: where the settings and the present count pass, each return rewrites with the tests that led to it.
+-- `mapping::judge_call` meets its contract: where the settings and the present count pass, each return rewrites with the tests that led to it.
 -- Assumes nothing.
 use mathlib.Core.Path.{_≡_, _∙_, ap, sym}
 use mathlib.Core.Bool.{not}
@@ -15,11 +15,11 @@ use Rattle.settings.specs.Grid.{frameBytes}
 use Rattle.settings.specs.Refusals.{verdictNumber, Reason, reason, lowest}
 use Rattle.settings.specs.Settings.{settingsReasons, outside}
 use Rattle.settings.proofs.Laws.{lowest-first, lowest-second, refused-has-number}
 use Rattle.source.specs.declared.SourceState.{SourceState}
 use Rattle.source.specs.Source.{startReasons, startNumber, sourceNumber}
 use Rattle.source.proofs.Laws.{start-ascending}
-use Rattle.source.proofs.judge_call.Statement.{statement}
-use Rattle.source.proofs.judge_call.Tie as tie
+use Rattle.mapping.proofs.judge_call.Statement.{statement}
+use Rattle.mapping.proofs.judge_call.Tie as tie
 
 module _ (s : Settings) (z : SourceState) (next load length : ℕ) where
   -- the lines of a call after those of its count

@@ -1,12 +1,12 @@
--- `sink::read_control` meets its contract. Assumes nothing.
+-- `demapping::read_control` meets its contract. Assumes nothing.
 use mathlib.Core.Path.{_≡_, _∙_, sym, ap}
 use mathlib.Core.Bool.{true, false}
 use borrow.Author.Needs.{needs}
 use Rattle.crc8.specs.Check.{passes}
 use Rattle.standings.specs.Standing.{Finding}
 use Rattle.sink.proofs.Laws.{standing-passed, standing-failed, word-passed, word-failed, count-after}
-use Rattle.sink.proofs.read_control.Statement.{statement}
-use Rattle.sink.proofs.read_control.Tie as tie
+use Rattle.demapping.proofs.read_control.Statement.{statement}
+use Rattle.demapping.proofs.read_control.Tie as tie
 
 passes-requires : tie.Need-passes-requires
 passes-requires c κs = search needs

@@ -1,4 +1,4 @@
--- `sink::take_accepted` meets its contract: the parts, put together. Assumes nothing.
+-- `demapping::take_accepted` meets its contract: the parts, put together. Assumes nothing.
 use mathlib.Core.Path.{_≡_, _∙_, sym, ap}
 use mathlib.Core.List.{List, _++_}
 use Prim.Native.Nat.{ℕ}
@@ -10,10 +10,10 @@ use Rattle.standings.specs.Standing.{Finding}
 use Rattle.jc.specs.declared.Remembered.{Remembered}
 use Rattle.stuffing.specs.declared.Control.{Control}
 use Rattle.stuffing.specs.Frame.{controlOf}
 use Rattle.sink.specs.Sink.{stateAfter, standingAfter}
 use Rattle.sink.proofs.Laws.{answer-accepted, state-accepted, handed-accepted, out-accepted, state-of-parts}
-use Rattle.sink.proofs.take_accepted.Statement.{statement}
-use Rattle.sink.proofs.take_accepted.Tie as tie
+use Rattle.demapping.proofs.take_accepted.Statement.{statement}
+use Rattle.demapping.proofs.take_accepted.Tie as tie
 
 hand-out-requires : tie.Need-hand-out-requires
 hand-out-requires c κs = search needs

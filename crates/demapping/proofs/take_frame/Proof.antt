@@ -1,12 +1,12 @@
--- `sink::take_frame` meets its contract. Assumes nothing.
+-- `demapping::take_frame` meets its contract. Assumes nothing.
 use mathlib.Core.Path.{_≡_, _∙_, sym, ap}
 use lib.ListN.{length}
 use borrow.Author.Needs.{needs}
 use Rattle.settings.specs.Refusals.{verdictNumber, refused}
 use Rattle.settings.proofs.Laws.{refused-has-number}
 use Rattle.sink.proofs.Laws.{answer-refused, state-refused, handed-refused, out-refused}
-use Rattle.sink.proofs.take_frame.Statement.{statement}
-use Rattle.sink.proofs.take_frame.Tie as tie
+use Rattle.demapping.proofs.take_frame.Statement.{statement}
+use Rattle.demapping.proofs.take_frame.Tie as tie
 
 judge-call-requires : tie.Need-judge-call-requires
 judge-call-requires c κs = search needs

@@ -1,9 +1,9 @@
--- `sink::hand_out` meets its contract. Assumes nothing.
+-- `demapping::hand_out` meets its contract. Assumes nothing.
 use mathlib.Core.Path.{_∙_, sym}
 use borrow.Author.Needs.{needs}
 use Rattle.sink.proofs.Laws.{handed-none, hands-out}
-use Rattle.sink.proofs.hand_out.Statement.{statement}
-use Rattle.sink.proofs.hand_out.Tie as tie
+use Rattle.demapping.proofs.hand_out.Statement.{statement}
+use Rattle.demapping.proofs.hand_out.Tie as tie
 
 known-count-requires : tie.Need-known-count-requires
 known-count-requires c κs = search needs

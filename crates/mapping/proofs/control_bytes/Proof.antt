@@ -1,12 +1,12 @@
--- `source::control_bytes` meets its contract. Assumes nothing.
+-- `mapping::control_bytes` meets its contract. Assumes nothing.
 use mathlib.Core.Path.{_≡_, _∙_, ap}
 use Prim.Native.Nat.{ℕ}
 use borrow.Author.Needs.{needs}
 use Rattle.jc.specs.declared.WordBytes.{WordBytes}
 use Rattle.stuffing.specs.declared.Control.{Control}
 use Rattle.source.specs.Source.{checked, controlBytes}
-use Rattle.source.proofs.control_bytes.Statement.{statement}
-use Rattle.source.proofs.control_bytes.Tie as tie
+use Rattle.mapping.proofs.control_bytes.Statement.{statement}
+use Rattle.mapping.proofs.control_bytes.Tie as tie
 
 announce-requires : tie.Need-announce-requires
 announce-requires c κs = search needs

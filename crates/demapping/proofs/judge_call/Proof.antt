@@ -1,12 +1,12 @@
--- `sink::judge_call` meets its contract: each return rewrites with the tests that led to it. Assumes nothing.
+-- `demapping::judge_call` meets its contract: each return rewrites with the tests that led to it. Assumes nothing.
 use mathlib.Core.Path.{_≡_, _∙_, sym}
 use borrow.Author.Tests.{eq-eqb, ne-eqb, lt-ltb, le-ltb}
 use borrow.Author.Needs.{needs}
 use Rattle.settings.specs.Refusals.{lowest}
 use Rattle.settings.proofs.Laws.{settings-refuse, settings-pass, own-lines-decide}
 use Rattle.sink.specs.Sink.{sinkReasons, sinkNumber}
-use Rattle.sink.proofs.judge_call.Statement.{statement}
-use Rattle.sink.proofs.judge_call.Tie as tie
+use Rattle.demapping.proofs.judge_call.Statement.{statement}
+use Rattle.demapping.proofs.judge_call.Tie as tie
 
 judge-requires : tie.Need-judge-requires
 judge-requires c κs = search needs

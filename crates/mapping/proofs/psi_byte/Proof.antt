@@ -1,7 +1,7 @@
--- `source::psi_byte` meets its contract. Assumes nothing.
+-- `mapping::psi_byte` meets its contract. Assumes nothing.
 use borrow.Author.Tests.{eq-eqb, ne-eqb}
-use Rattle.source.proofs.psi_byte.Statement.{statement}
-use Rattle.source.proofs.psi_byte.Tie as tie
+use Rattle.mapping.proofs.psi_byte.Statement.{statement}
+use Rattle.mapping.proofs.psi_byte.Tie as tie
 
 returns : tie.Need-returns
 returns c = simp (eq-eqb _ _ (c .if1 .taken))

@@ -1,4 +1,4 @@
--- `source::source_call` meets its contract: the frame is written where the call is accepted, and nothing is where it is not. Assumes nothing.
+-- `mapping::source_call` meets its contract: the frame is written where the call is accepted, and nothing is where it is not. Assumes nothing.
 use mathlib.Core.Path.{_≡_, _∙_, sym, ap}
 use Prim.Native.Nat.{ℕ}
 use lib.ListN.{length}
@@ -8,10 +8,10 @@ use Rattle.settings.proofs.Laws.{refused-has-number}
 use Rattle.stuffing.specs.declared.Control.{Control}
 use Rattle.stuffing.specs.Frame.{frame, frameWritten}
 use Rattle.stuffing.proofs.Laws.{written-fits}
 use Rattle.source.specs.Source.{psi, controlBytes, sourceNumber, written}
 use Rattle.source.proofs.Laws.{accepted-knows, client-fits, state-accepted, frame-accepted, state-refused, frame-refused}
-use Rattle.source.proofs.source_call.Statement.{statement}
-use Rattle.source.proofs.source_call.Tie as tie
+use Rattle.mapping.proofs.source_call.Statement.{statement}
+use Rattle.mapping.proofs.source_call.Tie as tie
 
 judge-call-requires : tie.Need-judge-call-requires
 judge-call-requires c κs = search needs

@@ -1,0 +1,99 @@
+// The sink's call: it hands out the client bytes of a frame at the places of the count that it knew before, and follows the control word.
+use jc::Followed;
+use jc::Remembered;
+use settings::Refusal;
+use settings::Settings;
+use settings::Verdict;
+use sink::SinkAnswer;
+use sink::SinkResult;
+use sink::SinkState;
+use standings::Count;
+use standings::Standing;
+use stuffing::Control;
+ghost use mathlib.Core.Path.{_≡_};
+ghost use lib.ListN.{length};
+ghost use Rattle.settings.specs.Refusals.{verdictNumber};
+ghost use Rattle.sink.specs.Sink.{sinkNumber, handed, HandsOut, ReadsControl, SinkPromise};
+
+// Takes a frame. A refused call returns the state that it was given and leaves the output buffer as it was.
+pub fn take_frame(settings: Settings, state: SinkState, frame: &[u8], out: &mut [u8]) -> SinkResult
+    ensures { λ r. ⌜ SinkPromise settings state (now (frame .entry)) (now (out .entry)) r (now (out .exit)) ⌝ }
+{
+    let verdict = judge_call(settings, frame.len(), out.len());
+    let Verdict::Refused(refusal) = verdict else {
+        return take_accepted(settings, state, frame, out);
+    };
+    SinkResult {
+        answer: SinkAnswer::Refused(refusal),
+        state: state,
+        handed: 0,
+    }
+}
+
+// The same where nothing is refused. The count that was known before the frame says which bytes are handed out.
+fn take_accepted(settings: Settings, state: SinkState, frame: &[u8], out: &mut [u8]) -> SinkResult
+    requires { ⌜ sinkNumber settings (length (now frame)) (length (now out)) ≡ 0 ⌝ }
+    ensures { λ r. ⌜ SinkPromise settings state (now (frame .entry)) (now (out .entry)) r (now (out .exit)) ⌝ }
+{
+    let handed = hand_out(settings, state, frame, out);
+    let control = stuffing::control_of(frame, settings.k);
+    let followed = read_control(settings, state, control);
+    let standing = followed.standing;
+    let count = followed.count;
+    let word = followed.word;
+    SinkResult {
+        answer: SinkAnswer::Done(standing),
+        state: SinkState {
+            count: count,
+            word: word,
+        },
+        handed: handed,
+    }
+}
+
+// Copies the client bytes at the places of a known count to the start of the output buffer, and gives their number.
+fn hand_out(settings: Settings, state: SinkState, frame: &[u8], out: &mut [u8]) -> u32
+    requires { ⌜ sinkNumber settings (length (now frame)) (length (now out)) ≡ 0 ⌝ }
+    ensures { λ r. ⌜ HandsOut (handed settings state (now (frame .entry))) (now (out .entry)) r (now (out .exit)) ⌝ }
+{
+    let count = state.count;
+    let known = standings::known_count(settings, count);
+    let Count::Known(n) = known else {
+        return 0;
+    };
+    stuffing::take_client(frame, settings.k, n, out);
+    n
+}
+
+// Rules 1 to 3: what the control bytes lead to.
+fn read_control(settings: Settings, state: SinkState, control: Control) -> Followed
+    ensures { λ r. ⌜ ReadsControl settings state control r ⌝ }
+{
+    let count = state.count;
+    let word = state.word;
+    if crc8::passes(control.jc1, control.jc2, control.jc3) {
+        return follow::follow(settings, count, word, control.jc1, control.jc2);
+    }
+    Followed {
+        standing: Standing::BadCheck,
+        count: Count::Unknown,
+        word: Remembered::Nothing,
+    }
+}
+
+// Numbers 1, 2, 8 and 9, for a frame and an output buffer of these lengths.
+fn judge_call(settings: Settings, length: usize, space: usize) -> Verdict
+    ensures { λ v. ⌜ verdictNumber v ≡ sinkNumber settings length space ⌝ }
+{
+    let verdict = settings::judge(settings);
+    let Verdict::Accepted = verdict else {
+        return verdict;
+    };
+    if length != settings::frame_length(settings) {
+        return Verdict::Refused(Refusal::Frame);
+    }
+    if space < settings.hi as usize {
+        return Verdict::Refused(Refusal::Space);
+    }
+    Verdict::Accepted
+}
