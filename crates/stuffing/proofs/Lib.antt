@@ -1,3 +1,3 @@
--- The arguments behind the frame's proofs, and in Laws what other crates cite. Assumes nothing.
-mod Rows
+-- The rows of a frame, and in Laws what a frame gives back; other crates cite both. Assumes nothing.
+pub mod Rows
 pub mod Laws

@@ -1,11 +1,12 @@
--- `stuffing::extract_row` meets its contract. Assumes nothing.
+-- `extraction::extract_row` meets its contract. Assumes nothing.
 use native.Mathlib.Omega.{arith}
 use borrow.Author.Needs.{needs}
 use Rattle.places.proofs.Laws.{fits-where, taken-fits}
 use Rattle.stuffing.specs.Frame.{columns}
-use Rattle.stuffing.proofs.Rows.{row-within, as-column, length-columns}
-use Rattle.stuffing.proofs.extract_row.Statement.{statement}
-use Rattle.stuffing.proofs.extract_row.Tie as tie
+use Rattle.stuffing.proofs.Rows.{row-within, length-columns}
+use Rattle.extraction.proofs.Taking.{as-column}
+use Rattle.extraction.proofs.extract_row.Statement.{statement}
+use Rattle.extraction.proofs.extract_row.Tie as tie
 
 add-first : tie.Need-add-first
 add-first c = omega arith

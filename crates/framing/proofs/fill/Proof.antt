@@ -1,9 +1,9 @@
--- `stuffing::fill` meets its contract. Assumes nothing.
+-- `framing::fill` meets its contract. Assumes nothing.
 use mathlib.Core.Path.{_∙_}
 use native.Mathlib.Omega.{arith}
-use Rattle.stuffing.proofs.Rows.{frame-written}
-use Rattle.stuffing.proofs.fill.Statement.{statement}
-use Rattle.stuffing.proofs.fill.Tie as tie
+use Rattle.framing.proofs.Writing.{frame-written}
+use Rattle.framing.proofs.fill.Statement.{statement}
+use Rattle.framing.proofs.fill.Tie as tie
 
 write-row-requires : tie.Need-write-row-requires
 write-row-requires c κs = let p = c .before .before .before .pre in (p .0, p .1, omega arith, p .2)

@@ -1,4 +1,4 @@
--- `stuffing::write_row` meets its contract. Assumes nothing.
+-- `framing::write_row` meets its contract. Assumes nothing.
 use mathlib.Core.Path.{_≡_, _∙_}
 use Prim.Native.Nat.{_+_, _-_, _*_}
 use native.Mathlib.Omega.{arith}
@@ -6,10 +6,11 @@ use lib.ListN.{length, take, drop, set, length-set, length-take, length-drop}
 use borrow.Author.Needs.{needs}
 use borrow.Rule.Slice.PartMut.{same-len-mid}
 use Rattle.places.proofs.Laws.{fits-where, placed-fits}
 use Rattle.stuffing.specs.Frame.{row}
-use Rattle.stuffing.proofs.Rows.{row-within, row-stored}
-use Rattle.stuffing.proofs.write_row.Statement.{statement}
-use Rattle.stuffing.proofs.write_row.Tie as tie
+use Rattle.stuffing.proofs.Rows.{row-within}
+use Rattle.framing.proofs.Writing.{row-stored}
+use Rattle.framing.proofs.write_row.Statement.{statement}
+use Rattle.framing.proofs.write_row.Tie as tie
 
 add-start : tie.Need-add-start
 add-start c = omega arith

@@ -1,13 +1,13 @@
--- `stuffing::take_client` meets its contract. Assumes nothing.
+-- `extraction::take_client` meets its contract. Assumes nothing.
 use Prim.Native.Nat.{_+_, _*_}
 use native.Mathlib.Omega.{arith}
 use lib.ListN.{length}
 use borrow.Author.Needs.{needs}
 use borrow.Author.Tests.{eq-eqb, ne-eqb, le-leb, lt-leb}
 use Rattle.stuffing.specs.Frame.{clientTaken}
 use Rattle.stuffing.proofs.Laws.{taken-fits}
-use Rattle.stuffing.proofs.take_client.Statement.{statement}
-use Rattle.stuffing.proofs.take_client.Tie as tie
+use Rattle.extraction.proofs.take_client.Statement.{statement}
+use Rattle.extraction.proofs.take_client.Tie as tie
 
 mul-if1 : tie.Need-mul-if1
 mul-if1 c = search needs

@@ -1,13 +1,13 @@
--- `stuffing::write_frame` meets its contract. Assumes nothing.
+-- `framing::write_frame` meets its contract. Assumes nothing.
 use Prim.Native.Nat.{_+_, _*_}
 use native.Mathlib.Omega.{arith}
 use lib.ListN.{length}
 use borrow.Author.Needs.{needs}
 use borrow.Author.Tests.{eq-eqb, ne-eqb, lt-leb}
 use Rattle.stuffing.specs.Frame.{frameWritten}
 use Rattle.stuffing.proofs.Laws.{written-fits}
-use Rattle.stuffing.proofs.write_frame.Statement.{statement}
-use Rattle.stuffing.proofs.write_frame.Tie as tie
+use Rattle.framing.proofs.write_frame.Statement.{statement}
+use Rattle.framing.proofs.write_frame.Tie as tie
 
 mul-if1 : tie.Need-mul-if1
 mul-if1 c = search needs

@@ -1,9 +1,9 @@
--- `stuffing::extract` meets its contract. Assumes nothing.
+-- `extraction::extract` meets its contract. Assumes nothing.
 use mathlib.Core.Path.{_∙_}
 use native.Mathlib.Omega.{arith}
-use Rattle.stuffing.proofs.Rows.{four-taken}
-use Rattle.stuffing.proofs.extract.Statement.{statement}
-use Rattle.stuffing.proofs.extract.Tie as tie
+use Rattle.extraction.proofs.Taking.{four-taken}
+use Rattle.extraction.proofs.extract.Statement.{statement}
+use Rattle.extraction.proofs.extract.Tie as tie
 
 extract-row-requires : tie.Need-extract-row-requires
 extract-row-requires c κs = let p = c .before .before .before .pre in (p .0, p .1, p .2, omega arith, p .3)
