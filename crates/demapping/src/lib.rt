@@ -61,7 +61,7 @@ fn hand_out(settings: Settings, state: SinkState, frame: &[u8], out: &mut [u8]) 
     let Count::Known(n) = known else {
         return 0;
     };
-    stuffing::take_client(frame, settings.k, n, out);
+    extraction::take_client(frame, settings.k, n, out);
     n
 }
 

@@ -29,7 +29,7 @@ pub fn source_call(
         };
     };
     let control = control_bytes(settings, state.count, next);
-    stuffing::write_frame(buffer, settings.k, client, control, psi_byte(state));
+    framing::write_frame(buffer, settings.k, client, control, psi_byte(state));
     SourceResult {
         answer: Verdict::Accepted,
         state: SourceState {
