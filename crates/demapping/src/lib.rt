@@ -35,18 +35,19 @@ fn take_accepted(settings: Settings, state: SinkState, frame: &[u8], out: &mut [
     requires { ⌜ sinkNumber settings (length (now frame)) (length (now out)) ≡ 0 ⌝ }
     ensures { λ r. ⌜ SinkPromise settings state (now (frame .entry)) (now (out .entry)) r (now (out .exit)) ⌝ }
 {
-    let handed = hand_out(settings, state, frame, out);
     let control = stuffing::control_of(frame, settings.k);
     let followed = read_control(settings, state, control);
     let standing = followed.standing;
     let count = followed.count;
     let word = followed.word;
+    let after = SinkState {
+        count: count,
+        word: word,
+    };
+    let handed = hand_out(settings, state, frame, out);
     SinkResult {
         answer: SinkAnswer::Done(standing),
-        state: SinkState {
-            count: count,
-            word: word,
-        },
+        state: after,
         handed: handed,
     }
 }

@@ -119,8 +119,9 @@ fn continue_count(settings: Settings, count: u32, word: u32) -> Count
 fn possible(settings: Settings, word: u32, change: usize) -> u32
     ensures { λ r. ⌜ r ≡ candidate (tableOf settings) (countBits word) change ⌝ }
 {
-    let inverted = count_bits(word) ^ jc::pattern(settings, change);
-    jc::move_count(inverted, change)
+    let bits = count_bits(word);
+    let count = bits ^ jc::pattern(settings, change);
+    jc::move_count(count, change)
 }
 
 // The word of two bytes.

@@ -57,7 +57,8 @@ fn judge_call(
     if settings::is_outside(settings, next) {
         return Verdict::Refused(Refusal::Count);
     }
-    if load != state.count as usize {
+    let present = state.count;
+    if load != present as usize {
         return Verdict::Refused(Refusal::Client);
     }
     if length != settings::frame_length(settings) {

@@ -15,14 +15,14 @@ use Rattle.sink.proofs.Laws.{answer-accepted, state-accepted, handed-accepted, 
 use Rattle.demapping.proofs.take_accepted.Statement.{statement}
 use Rattle.demapping.proofs.take_accepted.Tie as tie
 
-hand-out-requires : tie.Need-hand-out-requires
-hand-out-requires c κs = search needs
-
 control-of-requires : tie.Need-control-of-requires
 control-of-requires c κs = search needs
 
 read-control-requires : tie.Need-read-control-requires
 read-control-requires c κs = search needs
+
+hand-out-requires : tie.Need-hand-out-requires
+hand-out-requires c κs = search needs
 
 same-length : tie.Need-same-length
 same-length c = search needs
@@ -34,15 +34,18 @@ returns c =
     let z = g .state in
     let frame = g .frame .now in
     let out = g .out .now in
-    let control = c .before .control-of .ensures in
+    let zero = c .before .before .before .before .before .before .before .before .pre in
+    let control = c .before .before .before .before .before .control-of .ensures in
+    let reads = c .before .before .before .before .read-control .ensures in
+    let hands = c .before .before .hand-out .ensures in
     record {
-      answer = ap accepted (c .read-control .ensures .standing ∙ ap (standingAfter s z) control) ∙ sym (answer-accepted s z frame out (c .before .before .before .before .before .before .before .before .pre));
-      state = state-of-parts _ _ _ (c .read-control .ensures .count) (c .read-control .ensures .word) ∙ ap (stateAfter s z) control ∙ sym (state-accepted s z frame out (c .before .before .before .before .before .before .before .before .pre));
-      handed-bytes = c .before .before .before .before .hand-out .ensures .number ∙ sym (ap length (handed-accepted s z frame out (c .before .before .before .before .before .before .before .before .pre)));
-      out-buffer = c .before .before .before .before .hand-out .ensures .buffer ∙ sym (out-accepted s z frame out (c .before .before .before .before .before .before .before .before .pre));
+      answer = ap accepted (reads .standing ∙ ap (standingAfter s z) control) ∙ sym (answer-accepted s z frame out zero);
+      state = state-of-parts _ _ _ (reads .count) (reads .word) ∙ ap (stateAfter s z) control ∙ sym (state-accepted s z frame out zero);
+      handed-bytes = hands .number ∙ sym (ap length (handed-accepted s z frame out zero));
+      out-buffer = hands .buffer ∙ sym (out-accepted s z frame out zero);
     }
 
 pub take-accepted-spec : {M : Type 1} → statement M
 take-accepted-spec =
     tie.close
-    (tie.spec hand-out-requires control-of-requires read-control-requires same-length returns)
+    (tie.spec control-of-requires read-control-requires hand-out-requires same-length returns)

@@ -65,24 +65,24 @@ cast-if2 c = search needs
 
 returns-3 : tie.Need-returns-3
 returns-3 c =
-    let g = c .before .before .before .before .before .before .before .args in
-    decides (g .settings) (g .state) (g .next) (g .load) (g .length) _ 7 (c .before .before .before .before .before .before .judge-start .ensures) (c .before .before .before .before .enum-told .given .1)
-    (simp (sym (c .before .before .before .is-outside .ensures) ∙ c .before .before .if1 .left, ne-eqb _ _ (c .if2 .taken)))
+    let g = c .before .before .before .before .before .before .args in
+    decides (g .settings) (g .state) (g .next) (g .load) (g .length) _ 7 (c .before .before .before .before .before .judge-start .ensures) (c .before .before .before .enum-told .given .1)
+    (simp (sym (c .before .before .is-outside .ensures) ∙ c .before .if1 .left, ne-eqb _ _ (c .if2 .taken)))
 
 frame-length-requires : tie.Need-frame-length-requires
 frame-length-requires c κs = search needs
 
 returns-4 : tie.Need-returns-4
 returns-4 c =
-    let g = c .before .before .before .before .before .before .before .before .before .args in
-    decides (g .settings) (g .state) (g .next) (g .load) (g .length) _ 8 (c .before .before .before .before .before .before .before .before .judge-start .ensures) (c .before .before .before .before .before .before .enum-told .given .1)
-    (simp (sym (c .before .before .before .before .before .is-outside .ensures) ∙ c .before .before .before .before .if1 .left, eq-eqb _ _ (c .before .before .if2 .left), ne-eqb _ _ (λ e. c .if3 .taken (e ∙ sym (c .before .frame-length .ensures)))))
+    let g = c .before .before .before .before .before .before .before .before .args in
+    decides (g .settings) (g .state) (g .next) (g .load) (g .length) _ 8 (c .before .before .before .before .before .before .before .judge-start .ensures) (c .before .before .before .before .before .enum-told .given .1)
+    (simp (sym (c .before .before .before .before .is-outside .ensures) ∙ c .before .before .before .if1 .left, eq-eqb _ _ (c .before .before .if2 .left), ne-eqb _ _ (λ e. c .if3 .taken (e ∙ sym (c .before .frame-length .ensures)))))
 
 returns-5 : tie.Need-returns-5
 returns-5 c =
-    let g = c .before .before .before .before .before .before .before .before .before .args in
-    decides (g .settings) (g .state) (g .next) (g .load) (g .length) _ 0 (c .before .before .before .before .before .before .before .before .judge-start .ensures) (c .before .before .before .before .before .before .enum-told .given .1)
-    (simp (sym (c .before .before .before .before .before .is-outside .ensures) ∙ c .before .before .before .before .if1 .left, eq-eqb _ _ (c .before .before .if2 .left), eq-eqb _ _ (c .if3 .left ∙ c .before .frame-length .ensures)))
+    let g = c .before .before .before .before .before .before .before .before .args in
+    decides (g .settings) (g .state) (g .next) (g .load) (g .length) _ 0 (c .before .before .before .before .before .before .before .judge-start .ensures) (c .before .before .before .before .before .enum-told .given .1)
+    (simp (sym (c .before .before .before .before .is-outside .ensures) ∙ c .before .before .before .if1 .left, eq-eqb _ _ (c .before .before .if2 .left), eq-eqb _ _ (c .if3 .left ∙ c .before .frame-length .ensures)))
 
 pub judge-call-spec : {M : Type 1} → statement M
 judge-call-spec =
