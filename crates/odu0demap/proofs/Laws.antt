@@ -1,16 +1,15 @@
 -- A frame of 15,240 bytes is never refused at OPU0's size, and what the sink makes of it is what the program goes on with. Assumes nothing.
-use mathlib.Core.Path.{_≡_, sym, ap, ap₂, subst, _∙_}
-use mathlib.Core.List.{List, [], _∷_, _++_}
-use Prim.Native.Nat.{ℕ, _+_, _-_, _*_, _≤_}
+use mathlib.Core.Path.{_≡_, sym, ap, ap₂, _∙_}
+use mathlib.Core.List.{List, _++_}
+use Prim.Native.Nat.{ℕ}
 use native.Mathlib.Omega.{arith}
-use lib.ListN.{length, take, drop, getD, length-append}
+use lib.ListN.{length, take, drop, length-append}
 use lib.Seq.{take-at}
 use Rattle.io.specs.Counts.{Counts}
 use Rattle.settings.specs.declared.Refusal.{Refusal}
 use Rattle.settings.specs.Refusals.{Answer, accepted}
 use Rattle.settings.specs.Settings.{opu0}
 use Rattle.standings.specs.declared.Standing.{Standing}
-use Rattle.standings.specs.declared.Standing.the-variants.{Read, Tracked, Paired, BadCheck, Waiting, Outside}
 use Rattle.standings.specs.Standing.{Finding, said, standingNumber}
 use Rattle.tally.specs.declared.Tally.{Tally}
 use Rattle.sink.specs.declared.SinkState.{SinkState}
@@ -67,26 +66,3 @@ module _ (d : Demapper) (frame out : List ℕ) (size : length frame ≡ 15240) (
           within = b .0;
           bytes = b .1;
         }
-
--- how many letters the standings' words have, and where in their text the word with a number ends
-abbrev letters : List ℕ
-letters = 4 ∷ 7 ∷ 6 ∷ 8 ∷ 7 ∷ 7 ∷ []
-
-abbrev end : ℕ → ℕ
-end n = 8 * (n - 1) + getD letters (n - 1) 0
-
-pub record Worded (n : ℕ) : Type 0 where
-  pub from-one : 1 ≤ n
-  pub to-six : n ≤ 6
-  pub within : end n ≤ 48
-
-numbered : (x : Standing) → Worded (standingNumber (said x .name))
-numbered (Read n) = record { from-one = omega arith; to-six = omega arith; within = omega arith }
-numbered (Tracked n) = record { from-one = omega arith; to-six = omega arith; within = omega arith }
-numbered (Paired n) = record { from-one = omega arith; to-six = omega arith; within = omega arith }
-numbered BadCheck = record { from-one = omega arith; to-six = omega arith; within = omega arith }
-numbered Waiting = record { from-one = omega arith; to-six = omega arith; within = omega arith }
-numbered Outside = record { from-one = omega arith; to-six = omega arith; within = omega arith }
-
-pub worded : (x : Standing) (n : ℕ) → n ≡ standingNumber (said x .name) → Worded n
-worded x n e = subst Worded (sym e) (numbered x)

@@ -1,12 +1,12 @@
 -- Text put into a line, and numbers in decimal. Assumes nothing.
-use mathlib.Core.Path.{_≡_, refl, sym, ap, subst, _∙_}
+use mathlib.Core.Path.{_≡_, sym, ap, _∙_}
 use mathlib.Core.List.{List, [], _∷_, _++_, append-assoc}
 use Prim.Native.Nat.{ℕ, zero, suc, _+_, _-_, _*_, _/_, _%_, _^_, _≤_, _<_}
 use native.Mathlib.Nat.{le-of-suc-le-suc, lt-of-not-le, pow-suc, pow-le-pow-right, one-le-pow, le-div-iff-mul-le, div-lt-iff-lt-mul}
 use native.Mathlib.Numerals.{unary-clauses}
 use native.Mathlib.Omega.{arith}
 use lib.Dec.{ltb, lit<}
-use lib.ListN.{length, take, drop, getD, set, replicate, length-append, length-set}
+use lib.ListN.{length, take, set, length-append, length-set}
 use lib.Seq.{take-length, take-at, take-suc-set, length-take-le}
 use borrow.Author.Tests.{lt-ltb, le-ltb}
 use borrow.Rule.Slice.PartMut.{midOf, postOf, putMid, same-len-mid}
@@ -16,7 +16,7 @@ use Rattle.standings.specs.declared.Count.{Count}
 use Rattle.standings.specs.declared.Count.the-variants.{Known, Unknown}
 use Rattle.standings.specs.declared.Standing.{Standing}
 use Rattle.standings.specs.declared.Standing.the-variants.{Read, Tracked, Paired, BadCheck, Waiting, Outside}
-use Rattle.standings.specs.Standing.{READ, TRACKED, PAIRED, BADCHECK, WAITING, OUTSIDE, said, standingNumber}
+use Rattle.standings.specs.Standing.{said}
 use Rattle.sinkshow.specs.Lines.{lastDigits, decimal, countText, numbersText}
 use Rattle.sinkshow.specs.Show.{Puts}
 
@@ -114,37 +114,6 @@ word-within (Paired n) = omega arith
 word-within BadCheck = omega arith
 word-within Waiting = omega arith
 word-within Outside = omega arith
-
--- the words of the standings in one text, each in 8 bytes, and how many letters each has
-abbrev words : List ℕ
-words = READ ++ replicate 4 32 ++ TRACKED ++ replicate 1 32 ++ PAIRED ++ replicate 2 32 ++ BADCHECK ++ WAITING ++ replicate 1 32 ++ OUTSIDE ++ replicate 1 32
-
-abbrev letters : List ℕ
-letters = 4 ∷ 7 ∷ 6 ∷ 8 ∷ 7 ∷ 7 ∷ []
-
--- where the word with a number begins and ends, and what stands there
-abbrev start : ℕ → ℕ
-start n = 8 * (n - 1)
-
-abbrev end : ℕ → ℕ
-end n = start n + getD letters (n - 1) 0
-
-pub record Worded (word : List ℕ) (n : ℕ) : Type 0 where
-  pub from-one : 1 ≤ n
-  pub to-six : n ≤ 6
-  pub within : end n ≤ 48
-  pub content : take (end n - start n) (drop (start n) words) ≡ word
-
-by-number : (x : Standing) → Worded (said x .name) (standingNumber (said x .name))
-by-number (Read n) = record { from-one = omega arith; to-six = omega arith; within = omega arith; content = refl }
-by-number (Tracked n) = record { from-one = omega arith; to-six = omega arith; within = omega arith; content = refl }
-by-number (Paired n) = record { from-one = omega arith; to-six = omega arith; within = omega arith; content = refl }
-by-number BadCheck = record { from-one = omega arith; to-six = omega arith; within = omega arith; content = refl }
-by-number Waiting = record { from-one = omega arith; to-six = omega arith; within = omega arith; content = refl }
-by-number Outside = record { from-one = omega arith; to-six = omega arith; within = omega arith; content = refl }
-
-pub worded : (x : Standing) (n : ℕ) → n ≡ standingNumber (said x .name) → Worded (said x .name) n
-worded x n e = subst (Worded (said x .name)) (sym e) (by-number x)
 
 pub numbers-within : (number handed : ℕ) → length (numbersText number handed) ≤ 42
 numbers-within number handed = simp length-append (omega (arith, decimal-within number, decimal-within handed))

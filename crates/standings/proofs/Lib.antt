@@ -1,2 +1,3 @@
--- In Laws stands what other crates cite. Assumes nothing.
+-- In Laws and Words stands what other crates cite. Assumes nothing.
 pub mod Laws
+pub mod Words

@@ -1,7 +1,7 @@
 -- `odu0demap::show_word` meets its contract. Assumes nothing.
 use native.Mathlib.Omega.{arith}
 use borrow.Author.Needs.{needs}
-use Rattle.odu0demap.proofs.Laws.{worded}
+use Rattle.standings.proofs.Words.{worded}
 use Rattle.odu0demap.proofs.show_word.Statement.{statement}
 use Rattle.odu0demap.proofs.show_word.Tie as tie
 

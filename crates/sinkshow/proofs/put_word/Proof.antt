@@ -3,7 +3,8 @@ use mathlib.Core.Path.{ap}
 use native.Mathlib.Omega.{arith}
 use lib.ListN.{length}
 use borrow.Author.Needs.{needs}
-use Rattle.sinkshow.proofs.Laws.{word-within, worded}
+use Rattle.standings.proofs.Words.{worded}
+use Rattle.sinkshow.proofs.Laws.{word-within}
 use Rattle.sinkshow.proofs.put_word.Statement.{statement}
 use Rattle.sinkshow.proofs.put_word.Tie as tie
 
