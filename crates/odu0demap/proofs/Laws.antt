@@ -6,20 +6,20 @@ use native.Mathlib.Omega.{arith}
 use lib.ListN.{length, take, drop, length-append}
 use lib.Seq.{take-at}
 use Rattle.io.specs.Counts.{Counts}
-use Rattle.settings.specs.declared.Refusal.{Refusal}
-use Rattle.settings.specs.Refusals.{Answer, accepted}
-use Rattle.settings.specs.Settings.{opu0}
-use Rattle.standings.specs.declared.Standing.{Standing}
-use Rattle.standings.specs.Standing.{Finding, said, standingNumber}
-use Rattle.tally.specs.declared.Tally.{Tally}
-use Rattle.sink.specs.declared.SinkState.{SinkState}
-use Rattle.sink.specs.declared.SinkAnswer.the-variants.{Done, Refused}
-use Rattle.sink.specs.declared.SinkResult.{SinkResult}
-use Rattle.sink.specs.Sink.{sinkNumber}
-use Rattle.sink.proofs.Laws.{answer-accepted, state-accepted, handed-accepted, out-accepted, never-refused, done-says}
-use Rattle.card.specs.Card.{tallyBy, tallyAfter, CallPromise}
+use Rattle.gmp_settings.specs.declared.Refusal.{Refusal}
+use Rattle.gmp_settings.specs.Refusals.{Answer, accepted}
+use Rattle.gmp_settings.specs.Settings.{opu0}
+use Rattle.gmp_standing.specs.declared.Standing.{Standing}
+use Rattle.gmp_standing.specs.Standing.{Finding, standingMeaning, standingNumber}
+use Rattle.card_tally.specs.declared.Tally.{Tally}
+use Rattle.gmp_sink.specs.declared.SinkState.{SinkState}
+use Rattle.gmp_sink.specs.declared.SinkAnswer.the-variants.{Done, Refused}
+use Rattle.gmp_sink.specs.declared.SinkResult.{SinkResult}
+use Rattle.gmp_sink.specs.Sink.{sinkRefusal}
+use Rattle.gmp_sink.proofs.Laws.{answer-accepted, state-accepted, handed-accepted, out-accepted, never-refused, done-says}
+use Rattle.card_sink.specs.Card.{tallyBy, tallyAfter, CallPromise}
 use Rattle.odu0demap.specs.declared.Demapper.{Demapper}
-use Rattle.odu0demap.specs.Demapping.{standingOf, bytesOf, Takes}
+use Rattle.odu0demap.specs.Demapping.{standingOf, handedBytes, Takes}
 
 -- bytes at the start of a buffer, and their number
 first-bytes : (bytes rest after : List ℕ) (n : ℕ) → after ≡ bytes ++ rest → n ≡ length bytes → Counts n after × (take n after ≡ bytes)
@@ -30,16 +30,16 @@ first-bytes bytes rest after n e f =
 
 -- a demapper by its parts
 demapper-of-parts : {x z : SinkState} {y t : Tally} {w v : ℕ} → x ≡ z → y ≡ t → w ≡ v
-    → _≡_ {A = Demapper} (record { state = x; tally = y; word = w }) (record { state = z; tally = t; word = v })
+    → _≡_ {A = Demapper} (record { state = x; tally = y; last = w }) (record { state = z; tally = t; last = v })
 demapper-of-parts {x} {z} {y} {t} {w} {v} e f g =
-    ap₂ (λ (a : SinkState) (b : Tally). record { state = a; tally = b; word = w }) e f ∙ ap (λ (k : ℕ). record { state = z; tally = t; word = k }) g
+    ap₂ (λ (a : SinkState) (b : Tally). record { state = a; tally = b; last = w }) e f ∙ ap (λ (k : ℕ). record { state = z; tally = t; last = k }) g
 
 module _ (d : Demapper) (frame out : List ℕ) (size : length frame ≡ 15240) (room : length out ≡ 14410) where
-  none-refused : sinkNumber opu0 (length frame) (length out) ≡ 0
-  unfolding sinkNumber
+  none-refused : sinkRefusal opu0 (length frame) (length out) ≡ 0
+  unfolding sinkRefusal
   none-refused = rw (size, room)
 
-  tallied : tallyAfter opu0 (d .state) frame out (d .tally) ≡ tallyBy (accepted (standingOf d frame)) (length (bytesOf d frame)) (d .tally)
+  tallied : tallyAfter opu0 (d .state) frame out (d .tally) ≡ tallyBy (accepted (standingOf d frame)) (length (handedBytes d frame)) (d .tally)
   unfolding tallyAfter
   tallied =
       ap₂ (λ (x : Answer Finding) (l : List ℕ). tallyBy x (length l) (d .tally)) (answer-accepted opu0 (d .state) frame out none-refused)
@@ -49,20 +49,20 @@ module _ (d : Demapper) (frame out : List ℕ) (size : length frame ≡ 15240) (
     pub not-refused : (x : Refusal) → r .answer ≡ Refused x → ⊥
     not-refused = never-refused none-refused (p .sink)
 
-    pub takes : (x : Standing) → r .answer ≡ Done x → (w : ℕ) → w ≡ standingNumber (said x .name)
-        → Takes d frame (record { handed = r .handed; standing = x; after = record { state = r .state; tally = tally; word = w } }) after
+    pub takes : (x : Standing) → r .answer ≡ Done x → (w : ℕ) → w ≡ standingNumber (standingMeaning x .name)
+        → Takes d frame (record { handed = r .handed; standing = x; after = record { state = r .state; tally = tally; last = w } }) after
     takes x e w f =
-        let s : said x ≡ standingOf d frame = done-says none-refused (p .sink) x e in
-        let n : r .handed ≡ length (bytesOf d frame) = p .sink .handed-bytes ∙ ap length (handed-accepted opu0 (d .state) frame out none-refused) in
+        let s : standingMeaning x ≡ standingOf d frame = done-says none-refused (p .sink) x e in
+        let n : r .handed ≡ length (handedBytes d frame) = p .sink .handed-bytes ∙ ap length (handed-accepted opu0 (d .state) frame out none-refused) in
         let b =
-        first-bytes (bytesOf d frame) (drop (length (bytesOf d frame)) out) after (r .handed)
+        first-bytes (handedBytes d frame) (drop (length (handedBytes d frame)) out) after (r .handed)
         (p .sink .out-buffer ∙ out-accepted opu0 (d .state) frame out none-refused) n in
         record {
           standing = s;
           after =
               demapper-of-parts (p .sink .state ∙ state-accepted opu0 (d .state) frame out none-refused) (p .tally ∙ tallied)
               (f ∙ ap (λ (y : Finding). standingNumber (y .name)) s);
-          number = n;
+          length-is = n;
           within = b .0;
           bytes = b .1;
         }

@@ -1,26 +1,26 @@
 // Takes OPU0 frames on standard input and hands out their client bytes on standard output. On standard error it writes a line for the first
 // frame's standing and for each change of it, in its word or in the count found, and at the end the card's tally.
+use card_tally::Tally;
+use gmp_settings::Settings;
+use gmp_sink::SinkAnswer;
+use gmp_sink::SinkState;
+use gmp_standing::Count;
+use gmp_standing::NAME_LENGTHS;
+use gmp_standing::NAMES;
+use gmp_standing::Standing;
 use libc::STDERR_FILENO;
 use libc::STDIN_FILENO;
-use settings::Settings;
-use sink::SinkAnswer;
-use sink::SinkState;
-use standings::Count;
-use standings::LETTERS;
-use standings::Standing;
-use standings::WORDS;
-use stream::Got;
-use tally::Tally;
+use program_stream::Got;
 ghost use mathlib.Core.Path.{_≡_};
 ghost use lib.ListN.{length};
-ghost use Rattle.standings.specs.Standing.{said};
+ghost use Rattle.gmp_standing.specs.Standing.{standingMeaning};
 ghost use Rattle.odu0demap.specs.Demapping.{newDemapper, sameCount, isSame, Goes, Takes};
 
 // The sink's state, the card's tally, and the number of the last standing's word, 0 before the first frame.
 struct Demapper {
     state: SinkState,
     tally: Tally,
-    word: u32,
+    last: u32,
 }
 
 // What a frame came to: the bytes handed out, its standing, and the demapper after it.
@@ -51,10 +51,10 @@ fn main() {
 // Takes frame after frame. A proved loop has to end: this one does at the largest frame number, which no run reaches.
 fn demap_all() {
     let mut demapper = new_demapper();
-    let mut number: u64 = 0;
-    while number < u64::MAX {
-        number += 1;
-        let next = take_next(number, demapper);
+    let mut frame_number: u64 = 0;
+    while frame_number < u64::MAX {
+        frame_number += 1;
+        let next = take_next(frame_number, demapper);
         let Next::From(after) = next else {
             show_tally(demapper.tally);
             return;
@@ -67,7 +67,7 @@ fn demap_all() {
 fn new_demapper() -> Demapper
     ensures { λ r. ⌜ r ≡ newDemapper ⌝ }
 {
-    let state = sink::new_sink();
+    let state = gmp_sink::new_sink();
     Demapper {
         state: state,
         tally: Tally {
@@ -75,19 +75,19 @@ fn new_demapper() -> Demapper
             bad: 0,
             bytes: 0,
         },
-        word: 0,
+        last: 0,
     }
 }
 
 // Reads the next frame and takes it, or says what is left where the input ends.
-fn take_next(number: u64, demapper: Demapper) -> Next {
+fn take_next(frame_number: u64, demapper: Demapper) -> Next {
     let mut frame = [0u8; 15240];
-    let got = stream::gather(STDIN_FILENO, &mut frame);
+    let got = program_stream::gather(STDIN_FILENO, &mut frame);
     let Got::Whole = got else {
         show_end(got);
         return Next::End;
     };
-    take_frame(number, demapper, &frame)
+    take_frame(frame_number, demapper, &frame)
 }
 
 // Says what is left where the input ends, or why it could not be read.
@@ -96,11 +96,11 @@ fn show_end(got: Got) {
         os::fail(b"odu0demap: standard input");
         return;
     };
-    stream::say_left(b"odu0demap: ", left);
+    program_stream::say_left(b"odu0demap: ", left);
 }
 
 // Takes a frame, says how its standing changed and writes its client bytes. Where that fails no more is handed out.
-fn take_frame(number: u64, demapper: Demapper, frame: &[u8]) -> Next
+fn take_frame(frame_number: u64, demapper: Demapper, frame: &[u8]) -> Next
     requires { ⌜ length (now frame) ≡ 15240 ⌝ }
     ensures { λ r. ⌜ Goes demapper (now (frame .entry)) r ⌝ }
 {
@@ -108,9 +108,9 @@ fn take_frame(number: u64, demapper: Demapper, frame: &[u8]) -> Next
     let taken = demap_frame(demapper, frame, &mut out);
     let standing = taken.standing;
     let after = taken.after;
-    show_change(number, demapper, standing);
+    show_change(frame_number, demapper, standing);
     let bytes = &out[..taken.handed as usize];
-    if stream::write_out(bytes, b"odu0demap: standard output") {
+    if program_stream::write_out(bytes, b"odu0demap: standard output") {
         return Next::From(after);
     }
     Next::End
@@ -127,7 +127,7 @@ fn demap_frame(demapper: Demapper, frame: &[u8], out: &mut [u8]) -> Taken
         hi: 14410,
     };
     let state = demapper.state;
-    let counted = card::count_call(settings, state, frame, out, demapper.tally);
+    let counted = card_sink::count_call(settings, state, frame, out, demapper.tally);
     let result = counted.result;
     let tally = counted.tally;
     let answer = result.answer;
@@ -145,20 +145,20 @@ fn demap_frame(demapper: Demapper, frame: &[u8], out: &mut [u8]) -> Taken
         after: Demapper {
             state: after,
             tally: tally,
-            word: standings::standing_number(standing),
+            last: gmp_standing::standing_number(standing),
         },
     }
 }
 
 // Says the standing of a frame and its count or "-", where that is not what the frame before had.
-fn show_change(number: u64, before: Demapper, standing: Standing) {
+fn show_change(frame_number: u64, before: Demapper, standing: Standing) {
     if is_same(before, standing) {
         return;
     }
-    stream::say(b"frame ", number);
+    program_stream::say(b"frame ", frame_number);
     io::write_all(STDERR_FILENO, b": ");
-    show_word(standing);
-    show_count(standings::found_count(standing));
+    show_name(standing);
+    show_count(gmp_standing::found_count(standing));
 }
 
 // Ends a line with the count found, or "-" where there is none.
@@ -167,19 +167,19 @@ fn show_count(count: Count) {
         io::write_all(STDERR_FILENO, b" -\n");
         return;
     };
-    stream::say_line(b" ", n as u64);
+    program_stream::say_line(b" ", n as u64);
 }
 
 // Whether a standing is that of the frame before: the same word, and the same count found, which the sink's state has kept.
 fn is_same(before: Demapper, standing: Standing) -> bool
-    ensures { λ r. ⌜ r ≡ isSame before (said standing) ⌝ }
+    ensures { λ r. ⌜ r ≡ isSame before (standingMeaning standing) ⌝ }
 {
     let state = before.state;
     let kept = state.count;
-    if standings::standing_number(standing) != before.word {
+    if gmp_standing::standing_number(standing) != before.last {
         return false;
     }
-    is_same_count(standings::found_count(standing), kept)
+    is_same_count(gmp_standing::found_count(standing), kept)
 }
 
 // Whether two counts are the same, known or not.
@@ -199,17 +199,17 @@ fn is_same_count(one: Count, other: Count) -> bool
 }
 
 // Writes the word of a standing to standard error.
-fn show_word(standing: Standing) {
-    let place = standings::standing_number(standing) as usize - 1;
-    let words: &[u8] = &WORDS;
+fn show_name(standing: Standing) {
+    let place = gmp_standing::standing_number(standing) as usize - 1;
+    let names: &[u8] = &NAMES;
     let start = 8 * place;
-    let end = start + LETTERS[place];
-    io::write_all(STDERR_FILENO, &words[start..end]);
+    let end = start + NAME_LENGTHS[place];
+    io::write_all(STDERR_FILENO, &names[start..end]);
 }
 
 // Says the tally: frames taken, BADCHECK frames and bytes handed out.
 fn show_tally(tally: Tally) {
-    stream::say(b"odu0demap: frames ", tally.frames as u64);
-    stream::say(b", BADCHECK ", tally.bad as u64);
-    stream::say_line(b", bytes ", tally.bytes as u64);
+    program_stream::say(b"odu0demap: frames ", tally.frames as u64);
+    program_stream::say(b", BADCHECK ", tally.bad as u64);
+    program_stream::say_line(b", bytes ", tally.bytes as u64);
 }

@@ -1,6 +1,6 @@
 -- A mapper that the keeper lets begin goes on for ever: neither the keeper nor the source refuses a call. Assumes nothing.
 use mathlib.Core.Path.{_≡_, refl, sym, ap, ap₂, subst, _∙_}
-use mathlib.Core.Bool.{Bool, true, false, not}
+use mathlib.Core.Bool.{Bool, true, false, not, cond}
 use mathlib.Core.List.{List, [], _∷_}
 use Prim.Native.Nat.{ℕ, _+_, _-_, _*_, _≤_, _<_}
 use native.Mathlib.Nat.{mod-lt}
@@ -8,41 +8,40 @@ use native.Mathlib.Omega.{arith}
 use lib.Dec.{eqb, lit<}
 use lib.ListN.{length, getD}
 use borrow.Author.Tests.{eqb-true, eq-eqb, lt-leb}
-use Rattle.bits.specs.Choice.{pick}
-use Rattle.settings.specs.declared.Settings.{Settings}
-use Rattle.settings.specs.declared.Refusal.{Refusal}
-use Rattle.settings.specs.declared.Refusal.the-variants.{Grid, Window, Divisor, Rate as BadRate, State, Count, Client, Frame, Space}
-use Rattle.settings.specs.Refusals.{refusalNumber, accepted, refused, answerBy}
-use Rattle.settings.specs.Settings.{opu0, outside}
-use Rattle.settings.proofs.Laws.{none-applies, all-passed, inside-window}
-use Rattle.rate.specs.declared.KeeperResult.{KeeperResult}
-use Rattle.rate.specs.declared.KeeperAnswer.the-variants.{Next, Refused}
-use Rattle.rate.specs.Rate.{badDivisor, badRate, badRemainder, keeperReasons, keeperNumber, Kept, answerTold, told, keeperCall, firstRemainder}
-use Rattle.rate.proofs.Laws.{accepted-knows, count-inside, call-accepted}
-use Rattle.source.specs.declared.SourceState.{SourceState}
-use Rattle.source.specs.declared.SourceResult.{SourceResult}
-use Rattle.source.specs.declared.SourceStart.{SourceStart}
-use Rattle.source.specs.declared.SourceStart.the-variants.{New, Refused as NotStarted}
-use Rattle.source.specs.Source.{startNumber, startState, newSource, startTold, sourceNumber, nextState, sourceState, sourceFrame, written, SourcePromise}
-use Rattle.source.proofs.Laws.{state-accepted, frame-accepted}
+use Rattle.gmp_settings.specs.declared.Settings.{Settings}
+use Rattle.gmp_settings.specs.declared.Refusal.{Refusal}
+use Rattle.gmp_settings.specs.declared.Refusal.the-variants.{Grid, Window, Divisor, Rate as BadRate, State, Count, Client, Frame, Space}
+use Rattle.gmp_settings.specs.Refusals.{refusalNumber, accepted, refused, answerBy}
+use Rattle.gmp_settings.specs.Settings.{opu0, outside}
+use Rattle.gmp_settings.proofs.Laws.{none-applies, all-passed, inside-window}
+use Rattle.gmp_rate.specs.declared.KeeperResult.{KeeperResult}
+use Rattle.gmp_rate.specs.declared.KeeperAnswer.the-variants.{Next, Refused}
+use Rattle.gmp_rate.specs.Rate.{badDivisor, badRate, badRemainder, keeperReasons, keeperRefusal, Kept, answerMeaning, resultMeaning, keeperCall, firstRemainder}
+use Rattle.gmp_rate.proofs.Laws.{accepted-knows, count-inside, call-accepted}
+use Rattle.gmp_source.specs.declared.SourceState.{SourceState}
+use Rattle.gmp_source.specs.declared.SourceResult.{SourceResult}
+use Rattle.gmp_source.specs.declared.SourceStart.{SourceStart}
+use Rattle.gmp_source.specs.declared.SourceStart.the-variants.{New, Refused as NotStarted}
+use Rattle.gmp_source.specs.Source.{startRefusal, startState, newSource, startMeaning, sourceRefusal, nextState, sourceState, sourceFrame, written, SourcePromise}
+use Rattle.gmp_source.proofs.Laws.{state-accepted, frame-accepted}
 use Rattle.odu0map.specs.declared.Rate.{Rate}
 use Rattle.odu0map.specs.declared.Mapper.{Mapper}
 use Rattle.odu0map.specs.Mapping.{countFrom, keptFrom, refusalFrom, newMapper, startAnswer, Ready, Maps}
 
 -- tables to which no line applies
-three-pass : (a b c : Bool) → a ≡ false → b ≡ false → c ≡ false → _≡_ {A = ℕ} (pick a 3 (pick b 4 (pick c 5 0))) 0
+three-pass : (a b c : Bool) → a ≡ false → b ≡ false → c ≡ false → _≡_ {A = ℕ} (cond a 3 (cond b 4 (cond c 5 0))) 0
 three-pass a b c e f g = rw (e, f, g)
 
 four-pass : (a b c d : Bool) → a ≡ false → b ≡ false → c ≡ true → d ≡ true
-    → _≡_ {A = ℕ} (pick a 5 (pick b 6 (pick (not c) 7 (pick (not d) 8 0)))) 0
+    → _≡_ {A = ℕ} (cond a 5 (cond b 6 (cond (not c) 7 (cond (not d) 8 0)))) 0
 four-pass a b c d e f g h = rw (e, f, g, h)
 
-one-passes : (a : Bool) → a ≡ false → _≡_ {A = ℕ} (pick a 5 0) 0
+one-passes : (a : Bool) → a ≡ false → _≡_ {A = ℕ} (cond a 5 0) 0
 one-passes a e = rw e
 
 -- a keeper that accepts one remainder accepts every one below q
 any-remainder : (a : Rate) (r t : ℕ) → refusalFrom a r ≡ 0 → t < a .q → refusalFrom a t ≡ 0
-unfolding keeperNumber
+unfolding keeperRefusal
 any-remainder a r t e h =
     let own = all-passed opu0 (keeperReasons opu0 (a .p) (a .q) r) e .1 in
     let three = none-applies 3 (badDivisor (a .q)) _ (lit< tt) own in
@@ -66,26 +65,26 @@ ready-le a m h = inside-window opu0 (m .source .count) (h .count) .1
 by-number : {A : Type 0} (n : ℕ) (x y : A) → accepted x ≡ answerBy n y → (n ≡ 0) × (x ≡ y)
 by-number n x y e = by (eqb n 0) refl e
   where
-    by : (b : Bool) → eqb n 0 ≡ b → accepted x ≡ pick b (accepted y) (refused n) → (n ≡ 0) × (x ≡ y)
+    by : (b : Bool) → eqb n 0 ≡ b → accepted x ≡ cond b (accepted y) (refused n) → (n ≡ 0) × (x ≡ y)
     by true t e′ = let same : x ≡ y = cc in (eqb-true n 0 t, same)
     by false t e′ = let z : _≡_ {A = ℕ} 0 1 = cc in absurd (omega arith)
 
 refused-by-number : {A B : Type 0} (n k : ℕ) (y : A) (z : B) → refused k ≡ answerBy n y → refused k ≡ answerBy n z
 refused-by-number n k y z e = by (eqb n 0) e
   where
-    by : (b : Bool) → refused k ≡ pick b (accepted y) (refused n) → refused k ≡ pick b (accepted z) (refused n)
+    by : (b : Bool) → refused k ≡ cond b (accepted y) (refused n) → refused k ≡ cond b (accepted z) (refused n)
     by true e′ = let o : _≡_ {A = ℕ} 0 1 = cc in absurd (omega arith)
     by false e′ = let same : k ≡ n = cc in ap refused same
 
-module _ (a : Rate) (s : Settings) (same : s ≡ opu0) (r : ℕ) (k : KeeperResult) (promise : told k ≡ keeperCall s (a .p) (a .q) r) where
+module _ (a : Rate) (s : Settings) (same : s ≡ opu0) (r : ℕ) (k : KeeperResult) (promise : resultMeaning k ≡ keeperCall s (a .p) (a .q) r) where
   -- the keeper's answer, by the number of its refusal
-  answers : answerTold (k .answer) ≡ answerBy (refusalFrom a r) (countFrom a r)
+  answers : answerMeaning (k .answer) ≡ answerBy (refusalFrom a r) (countFrom a r)
   unfolding keeperCall
   answers = ap (λ (x : Kept). x .answer) promise ∙ ap (λ (x : Settings). keeperCall x (a .p) (a .q) r .answer) same
 
   -- where it gives a count, that is the count, and the remainder is kept
   gives : (n : ℕ) → k .answer ≡ Next n → (refusalFrom a r ≡ 0) × (n ≡ countFrom a r)
-  gives n e = by-number (refusalFrom a r) n (countFrom a r) (sym (ap answerTold e) ∙ answers)
+  gives n e = by-number (refusalFrom a r) n (countFrom a r) (sym (ap answerMeaning e) ∙ answers)
 
   keeps : refusalFrom a r ≡ 0 → k .remainder ≡ keptFrom a r
   keeps z =
@@ -93,7 +92,7 @@ module _ (a : Rate) (s : Settings) (same : s ≡ opu0) (r : ℕ) (k : KeeperResu
       ∙ ap (λ (x : Kept). x .remainder) (call-accepted opu0 (a .p) (a .q) r z)
 
   turned-back : (x : Refusal) → k .answer ≡ Refused x → refused (refusalNumber x) ≡ answerBy (refusalFrom a r) (countFrom a r)
-  turned-back x e = sym (ap answerTold e) ∙ answers
+  turned-back x e = sym (ap answerMeaning e) ∙ answers
 
   pub never-refused : (x : Refusal) → refusalFrom a r ≡ 0 → k .answer ≡ Refused x → ⊥
   never-refused x z e =
@@ -103,24 +102,24 @@ module _ (a : Rate) (s : Settings) (same : s ≡ opu0) (r : ℕ) (k : KeeperResu
 
 -- the source accepts a mapper's call
 source-accepts : (z : SourceState) (n c b : ℕ) → outside opu0 (z .count) ≡ false → outside opu0 n ≡ false → c ≡ z .count → b ≡ 15240
-    → sourceNumber opu0 z n c b ≡ 0
-unfolding sourceNumber
+    → sourceRefusal opu0 z n c b ≡ 0
+unfolding sourceRefusal
 source-accepts z n c b e f g h = four-pass (outside opu0 (z .count)) (outside opu0 n) (eqb c (z .count)) (eqb b 15240) e f (eq-eqb _ _ g) (eq-eqb _ _ h)
 
 new-accepted : (n : ℕ) → outside opu0 n ≡ false → newSource opu0 n 7 ≡ accepted (startState n 7)
-unfolding newSource startNumber
+unfolding newSource startRefusal
 new-accepted n e = ap (λ (i : ℕ). answerBy i (startState n 7)) (one-passes (outside opu0 n) e)
 
 -- what the code of `make_frame` comes to
 module _ (a : Rate) (m : Mapper) (ready : Ready a m) (load buffer : List ℕ) (full : length load ≡ m .source .count) (size : length buffer ≡ 15240) where
-  pub makes : (s : Settings) → s ≡ opu0 → (k : KeeperResult) → told k ≡ keeperCall s (a .p) (a .q) (m .remainder) → (n : ℕ) → k .answer ≡ Next n
+  pub makes : (s : Settings) → s ≡ opu0 → (k : KeeperResult) → resultMeaning k ≡ keeperCall s (a .p) (a .q) (m .remainder) → (n : ℕ) → k .answer ≡ Next n
       → (t : Settings) → t ≡ opu0 → (x : SourceResult) (after : List ℕ) → SourcePromise t (m .source) n load buffer x after
       → Maps a m load (record { source = x .state; remainder = k .remainder }) after
   makes s same k promise n e t same′ x after p =
       let g = gives a s same (m .remainder) k promise n e in
       let kept = keeps a s same (m .remainder) k promise (ready .keeper) in
-      let inside = count-inside opu0 (a .p) (a .q) (m .remainder) (accepted-knows opu0 (a .p) (a .q) (m .remainder) (ready .keeper)) in
-      let ok = source-accepts (m .source) (countFrom a (m .remainder)) (length load) (length buffer) (ready .count) inside full size in
+      let inWindow = count-inside opu0 (a .p) (a .q) (m .remainder) (accepted-knows opu0 (a .p) (a .q) (m .remainder) (ready .keeper)) in
+      let ok = source-accepts (m .source) (countFrom a (m .remainder)) (length load) (length buffer) (ready .count) inWindow full size in
       let state : x .state ≡ nextState (m .source) (countFrom a (m .remainder)) =
       p .state ∙ ap₂ (λ (y : Settings) (i : ℕ). sourceState y (m .source) i load buffer) same′ (g .1)
       ∙ state-accepted opu0 (m .source) (countFrom a (m .remainder)) load buffer ok in
@@ -135,7 +134,7 @@ module _ (a : Rate) (m : Mapper) (ready : Ready a m) (load buffer : List ℕ) (f
 
 -- what the code of `new_mapper` comes to
 module _ (a : Rate) (s : Settings) (same : s ≡ opu0) (r : ℕ) (first : r ≡ firstRemainder (a .q)) (k : KeeperResult)
-    (promise : told k ≡ keeperCall s (a .p) (a .q) r) where
+    (promise : resultMeaning k ≡ keeperCall s (a .p) (a .q) r) where
   start-by : startAnswer a ≡ answerBy (refusalFrom a r) (record { source = startState (countFrom a r) 7; remainder = keptFrom a r })
   unfolding startAnswer
   start-by = ap (λ (i : ℕ). answerBy (refusalFrom a i) (record { source = startState (countFrom a i) 7; remainder = keptFrom a i })) (sym first)
@@ -149,23 +148,23 @@ module _ (a : Rate) (s : Settings) (same : s ≡ opu0) (r : ℕ) (first : r ≡ 
   pub start-refused : (x : Refusal) → k .answer ≡ Refused x → refused (refusalNumber x) ≡ startAnswer a
   start-refused x e = refused-by-number (refusalFrom a r) (refusalNumber x) (countFrom a r) _ (turned-back a s same r k promise x e) ∙ sym start-by
 
-  module _ (n : ℕ) (e : k .answer ≡ Next n) (t : Settings) (same′ : t ≡ opu0) (x : SourceStart) (p : startTold x ≡ newSource t n 7) where
-    started : startTold x ≡ accepted (startState (countFrom a r) 7)
+  module _ (n : ℕ) (e : k .answer ≡ Next n) (t : Settings) (same′ : t ≡ opu0) (x : SourceStart) (p : startMeaning x ≡ newSource t n 7) where
+    started : startMeaning x ≡ accepted (startState (countFrom a r) 7)
     started =
         let g = gives a s same r k promise n e in
-        let inside = count-inside opu0 (a .p) (a .q) r (accepted-knows opu0 (a .p) (a .q) r (g .0)) in
-        p ∙ ap₂ (λ (y : Settings) (i : ℕ). newSource y i 7) same′ (g .1) ∙ new-accepted (countFrom a r) inside
+        let inWindow = count-inside opu0 (a .p) (a .q) r (accepted-knows opu0 (a .p) (a .q) r (g .0)) in
+        p ∙ ap₂ (λ (y : Settings) (i : ℕ). newSource y i 7) same′ (g .1) ∙ new-accepted (countFrom a r) inWindow
 
     pub source-starts : (y : Refusal) → x ≡ NotStarted y → ⊥
     source-starts y told′ =
-        let o : refused (refusalNumber y) ≡ accepted (startState (countFrom a r) 7) = sym (ap startTold told′) ∙ started in
+        let o : refused (refusalNumber y) ≡ accepted (startState (countFrom a r) 7) = sym (ap startMeaning told′) ∙ started in
         let zero : _≡_ {A = ℕ} 0 1 = cc in
         omega arith
 
     pub start-made : (z : SourceState) → x ≡ New z → accepted (record { source = z; remainder = k .remainder }) ≡ startAnswer a
     start-made z told′ =
         let g = gives a s same r k promise n e in
-        let o : accepted z ≡ accepted (startState (countFrom a r) 7) = sym (ap startTold told′) ∙ started in
+        let o : accepted z ≡ accepted (startState (countFrom a r) 7) = sym (ap startMeaning told′) ∙ started in
         let state : z ≡ startState (countFrom a r) 7 = cc in
         begun z (k .remainder) state (g .0) (keeps a s same r k promise (g .0))
 
@@ -177,18 +176,18 @@ starts-ready a m e =
     goes-on a (firstRemainder (a .q)) m (g .0) (ap (λ (y : Mapper). y .source .count) (g .1)) (ap (λ (y : Mapper). y .remainder) (g .1))
 
 -- how many letters the refusals' words have, and where in their text the word with a number ends
-abbrev letters : List ℕ
-letters = 4 ∷ 6 ∷ 7 ∷ 4 ∷ 5 ∷ 5 ∷ 6 ∷ 5 ∷ 5 ∷ []
+abbrev nameLengths : List ℕ
+nameLengths = 4 ∷ 6 ∷ 7 ∷ 4 ∷ 5 ∷ 5 ∷ 6 ∷ 5 ∷ 5 ∷ []
 
 abbrev end : ℕ → ℕ
-end n = 7 * (n - 1) + getD letters (n - 1) 0
+end n = 7 * (n - 1) + getD nameLengths (n - 1) 0
 
-pub record Worded (n : ℕ) : Type 0 where
+pub record Named (n : ℕ) : Type 0 where
   pub from-one : 1 ≤ n
   pub to-nine : n ≤ 9
   pub within : end n ≤ 63
 
-numbered : (x : Refusal) → Worded (refusalNumber x)
+numbered : (x : Refusal) → Named (refusalNumber x)
 numbered Grid = record { from-one = omega arith; to-nine = omega arith; within = omega arith }
 numbered Window = record { from-one = omega arith; to-nine = omega arith; within = omega arith }
 numbered Divisor = record { from-one = omega arith; to-nine = omega arith; within = omega arith }
@@ -199,5 +198,5 @@ numbered Client = record { from-one = omega arith; to-nine = omega arith; within
 numbered Frame = record { from-one = omega arith; to-nine = omega arith; within = omega arith }
 numbered Space = record { from-one = omega arith; to-nine = omega arith; within = omega arith }
 
-pub worded : (x : Refusal) (n : ℕ) → n ≡ refusalNumber x → Worded n
-worded x n e = subst Worded (sym e) (numbered x)
+pub named : (x : Refusal) (n : ℕ) → n ≡ refusalNumber x → Named n
+named x n e = subst Named (sym e) (numbered x)

@@ -3,10 +3,10 @@ use mathlib.Core.Path.{_≡_}
 use mathlib.Core.Bool.{false}
 use mathlib.Core.List.{List}
 use Prim.Native.Nat.{ℕ, _+_, _/_, _%_}
-use Rattle.settings.specs.Refusals.{refusalNumber, Answer, accepted, refused, answerBy}
-use Rattle.settings.specs.Settings.{opu0, outside}
-use Rattle.rate.specs.Rate.{keeperNumber, firstRemainder}
-use Rattle.source.specs.Source.{startState, nextState, written}
+use Rattle.gmp_settings.specs.Refusals.{refusalNumber, Answer, accepted, refused, answerBy}
+use Rattle.gmp_settings.specs.Settings.{opu0, outside}
+use Rattle.gmp_rate.specs.Rate.{keeperRefusal, firstRemainder}
+use Rattle.gmp_source.specs.Source.{startState, nextState, written}
 use Rattle.odu0map.specs.declared.Rate.{Rate}
 use Rattle.odu0map.specs.declared.Mapper.{Mapper}
 use Rattle.odu0map.specs.declared.Start.{Start}
@@ -23,7 +23,7 @@ keptFrom a r = (r + a .p) % a .q
 
 -- why the keeper refuses, or 0
 abbrev pub refusalFrom : Rate → ℕ → ℕ
-refusalFrom a r = keeperNumber opu0 (a .p) (a .q) r
+refusalFrom a r = keeperRefusal opu0 (a .p) (a .q) r
 
 -- a new mapper: the source's first count is the keeper's, the payload type is 7
 abbrev pub newMapper : Rate → Mapper
@@ -38,9 +38,9 @@ unfoldable pub startAnswer : Rate → Answer Mapper
 startAnswer a = answerBy (refusalFrom a (firstRemainder (a .q))) (newMapper a)
 
 -- the paper's number and value for each case
-abbrev pub startTold : Start → Answer Mapper
-startTold (New m) = accepted m
-startTold (Refused r) = refused (refusalNumber r)
+abbrev pub startMeaning : Start → Answer Mapper
+startMeaning (New m) = accepted m
+startMeaning (Refused r) = refused (refusalNumber r)
 
 -- A mapper that goes on: the keeper accepts, and the source's count is in the window.
 pub record Ready (a : Rate) (m : Mapper) : Type 0 where

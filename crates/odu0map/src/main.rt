@@ -1,24 +1,24 @@
 // Maps standard input, a stream of client bytes, into OPU0 frames on standard output, at the rate p / q of client bytes a frame. The two
 // numbers are the program's arguments; with none the rate is 18,671,875 / 1,296.
-use decimal::Number;
+use gmp_rate::KeeperAnswer;
+use gmp_settings::Refusal;
+use gmp_settings::Settings;
+use gmp_settings::Verdict;
+use gmp_source::SourceStart;
+use gmp_source::SourceState;
 use libc::STDERR_FILENO;
 use libc::STDIN_FILENO;
-use rate::KeeperAnswer;
-use settings::Refusal;
-use settings::Settings;
-use settings::Verdict;
-use source::SourceStart;
-use source::SourceState;
-use stream::Got;
+use program_decimal::Number;
+use program_stream::Got;
 ghost use mathlib.Core.Path.{_≡_};
 ghost use lib.ListN.{length};
-ghost use Rattle.settings.specs.Settings.{opu0};
-ghost use Rattle.odu0map.specs.Mapping.{Ready, startTold, startAnswer, Goes, Maps};
+ghost use Rattle.gmp_settings.specs.Settings.{opu0};
+ghost use Rattle.odu0map.specs.Mapping.{Ready, startMeaning, startAnswer, Goes, Maps};
 
 // The words of the refusals in the order of their numbers, each in 7 bytes, and how many letters each has.
-const WORDS: [u8; 63] = *b"grid   window divisorrate   state  count  client frame  space  ";
+const NAMES: [u8; 63] = *b"grid   window divisorrate   state  count  client frame  space  ";
 
-const LETTERS: [usize; 9] = [4, 6, 7, 4, 5, 5, 6, 5, 5];
+const NAME_LENGTHS: [usize; 9] = [4, 6, 7, 4, 5, 5, 6, 5, 5];
 
 // The rate p / q.
 struct Rate {
@@ -79,11 +79,11 @@ fn asked_rate() -> Asked {
     if os::arg_count() != 3 {
         return Asked::Wrong;
     }
-    let first = stream::argument(1);
+    let first = program_stream::argument(1);
     let Number::Value(p) = first else {
         return Asked::Wrong;
     };
-    let second = stream::argument(2);
+    let second = program_stream::argument(2);
     let Number::Value(q) = second else {
         return Asked::Wrong;
     };
@@ -92,15 +92,15 @@ fn asked_rate() -> Asked {
 
 // A new rate keeper, and a new source with the keeper's first count and payload type 7. The source never refuses that count.
 fn new_mapper(rate: Rate) -> Start
-    ensures { λ r. ⌜ startTold r ≡ startAnswer rate ⌝ }
+    ensures { λ r. ⌜ startMeaning r ≡ startAnswer rate ⌝ }
 {
-    let kept = rate::next_count(opu0(), rate.p, rate.q, rate::first_remainder(rate.q));
+    let kept = gmp_rate::next_count(opu0(), rate.p, rate.q, gmp_rate::first_remainder(rate.q));
     let answer = kept.answer;
     let remainder = kept.remainder;
     match answer {
         KeeperAnswer::Refused(refusal) => Start::Refused(refusal),
         KeeperAnswer::Next(first) => {
-            let started = source::new_source(opu0(), first, 7);
+            let started = gmp_source::new_source(opu0(), first, 7);
             match started {
                 SourceStart::Refused(refusal) => Start::Refused(refusal),
                 SourceStart::New(state) => Start::New(Mapper {
@@ -147,7 +147,7 @@ fn take_load(rate: Rate, mapper: Mapper, client: &mut [u8]) -> Next
     ensures { λ r. ⌜ Goes rate mapper r ⌝ }
 {
     let load = &mut client[..mapper.source.count as usize];
-    let got = stream::gather(STDIN_FILENO, load);
+    let got = program_stream::gather(STDIN_FILENO, load);
     let Got::Whole = got else {
         show_end(got);
         return Next::End;
@@ -161,7 +161,7 @@ fn show_end(got: Got) {
         os::fail(b"odu0map: standard input");
         return;
     };
-    stream::say_left(b"odu0map: ", left);
+    program_stream::say_left(b"odu0map: ", left);
 }
 
 // Maps a load and writes its frame. Where that fails nothing more is mapped.
@@ -171,7 +171,7 @@ fn map_load(rate: Rate, mapper: Mapper, load: &[u8]) -> Next
 {
     let mut frame = [0u8; 15240];
     let after = make_frame(rate, mapper, load, &mut frame);
-    if stream::write_out(&frame, b"odu0map: standard output") {
+    if program_stream::write_out(&frame, b"odu0map: standard output") {
         return Next::From(after);
     }
     Next::End
@@ -182,13 +182,13 @@ fn make_frame(rate: Rate, mapper: Mapper, load: &[u8], frame: &mut [u8]) -> Mapp
     requires { ⌜ Ready rate mapper × (length (now load) ≡ mapper .source .count) × (length (now frame) ≡ 15240) ⌝ }
     ensures { λ r. ⌜ Maps rate mapper (now (load .entry)) r (now (frame .exit)) ⌝ }
 {
-    let kept = rate::next_count(opu0(), rate.p, rate.q, mapper.remainder);
+    let kept = gmp_rate::next_count(opu0(), rate.p, rate.q, mapper.remainder);
     let answer = kept.answer;
     let KeeperAnswer::Next(next) = answer else {
         return mapper;
     };
     let source = mapper.source;
-    let result = mapping::source_call(opu0(), source, next, load, frame);
+    let result = gmp_source_call::source_call(opu0(), source, next, load, frame);
     let after = result.state;
     Mapper {
         source: after,
@@ -209,29 +209,29 @@ fn opu0() -> Settings
 
 // Says how many frames were written, and how many client bytes they carry.
 fn show_totals(frames: u64, bytes: u64) {
-    stream::say(b"odu0map: frames ", frames);
-    stream::say_line(b", bytes ", bytes);
+    program_stream::say(b"odu0map: frames ", frames);
+    program_stream::say_line(b", bytes ", bytes);
 }
 
 // Says why there is no mapper, by the word and the number of the refusal.
 fn show_refusal(refusal: Refusal) {
     io::write_all(STDERR_FILENO, b"odu0map: refused, ");
-    show_word(refusal);
-    stream::say(
+    show_name(refusal);
+    program_stream::say(
         b" (number ",
-        settings::number(Verdict::Refused(refusal)) as u64,
+        gmp_settings::refusal_number(Verdict::Refused(refusal)) as u64,
     );
     io::write_all(STDERR_FILENO, b")\n");
     show_usage();
 }
 
 // Writes the word of a refusal to standard error.
-fn show_word(refusal: Refusal) {
-    let place = settings::number(Verdict::Refused(refusal)) as usize - 1;
-    let words: &[u8] = &WORDS;
+fn show_name(refusal: Refusal) {
+    let place = gmp_settings::refusal_number(Verdict::Refused(refusal)) as usize - 1;
+    let names: &[u8] = &NAMES;
     let start = 7 * place;
-    let end = start + LETTERS[place];
-    io::write_all(STDERR_FILENO, &words[start..end]);
+    let end = start + NAME_LENGTHS[place];
+    io::write_all(STDERR_FILENO, &names[start..end]);
 }
 
 // Says how the program is called.

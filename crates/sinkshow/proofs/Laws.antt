@@ -1,5 +1,6 @@
 -- Text put into a line, and numbers in decimal. Assumes nothing.
 use mathlib.Core.Path.{_≡_, sym, ap, _∙_}
+use mathlib.Core.Bool.{cond}
 use mathlib.Core.List.{List, [], _∷_, _++_, append-assoc}
 use Prim.Native.Nat.{ℕ, zero, suc, _+_, _-_, _*_, _/_, _%_, _^_, _≤_, _<_}
 use native.Mathlib.Nat.{le-of-suc-le-suc, lt-of-not-le, pow-suc, pow-le-pow-right, one-le-pow, le-div-iff-mul-le, div-lt-iff-lt-mul}
@@ -11,12 +12,12 @@ use lib.Seq.{take-length, take-at, take-suc-set, length-take-le}
 use borrow.Author.Tests.{lt-ltb, le-ltb}
 use borrow.Rule.Slice.PartMut.{midOf, postOf, putMid, same-len-mid}
 use Rattle.io.specs.Digits.{glyph, digits, Fewest}
-use Rattle.bits.specs.Choice.{pick, pick-elim}
-use Rattle.standings.specs.declared.Count.{Count}
-use Rattle.standings.specs.declared.Count.the-variants.{Known, Unknown}
-use Rattle.standings.specs.declared.Standing.{Standing}
-use Rattle.standings.specs.declared.Standing.the-variants.{Read, Tracked, Paired, BadCheck, Waiting, Outside}
-use Rattle.standings.specs.Standing.{said}
+use Rattle.math.specs.Choice.{cond-elim}
+use Rattle.gmp_standing.specs.declared.Count.{Count}
+use Rattle.gmp_standing.specs.declared.Count.the-variants.{Known, Unknown}
+use Rattle.gmp_standing.specs.declared.Standing.{Standing}
+use Rattle.gmp_standing.specs.declared.Standing.the-variants.{Read, Tracked, Paired, BadCheck, Waiting, Outside}
+use Rattle.gmp_standing.specs.Standing.{standingMeaning}
 use Rattle.sinkshow.specs.Lines.{lastDigits, decimal, countText, numbersText}
 use Rattle.sinkshow.specs.Show.{Puts}
 
@@ -94,9 +95,9 @@ last-digits-within : (most n : ℕ) → length (lastDigits most n) ≤ most
 unfolding lastDigits
 last-digits-within zero n = omega arith
 last-digits-within (suc most) n =
-    let tenth = pick (ltb n 10) [] (lastDigits most (n / 10)) in
+    let tenth = cond (ltb n 10) [] (lastDigits most (n / 10)) in
     let fewer : length (lastDigits most (n / 10)) ≤ most = last-digits-within most (n / 10) in
-    let within : length tenth ≤ most = pick-elim (λ (l : List ℕ). length l ≤ most) (ltb n 10) [] (lastDigits most (n / 10)) (λ _. omega arith) (λ _. fewer) in
+    let within : length tenth ≤ most = cond-elim (λ (l : List ℕ). length l ≤ most) (ltb n 10) [] (lastDigits most (n / 10)) (λ _. omega arith) (λ _. fewer) in
     omega (arith, length-append tenth (glyph (n % 10) ∷ []))
 
 -- the widths of a line's parts
@@ -107,13 +108,13 @@ pub count-within : (c : Count) → length (countText c) ≤ 20
 count-within (Known n) = decimal-within n
 count-within Unknown = omega arith
 
-pub word-within : (x : Standing) → length (said x .name) ≤ 8
-word-within (Read n) = omega arith
-word-within (Tracked n) = omega arith
-word-within (Paired n) = omega arith
-word-within BadCheck = omega arith
-word-within Waiting = omega arith
-word-within Outside = omega arith
+pub name-within : (x : Standing) → length (standingMeaning x .name) ≤ 8
+name-within (Read n) = omega arith
+name-within (Tracked n) = omega arith
+name-within (Paired n) = omega arith
+name-within BadCheck = omega arith
+name-within Waiting = omega arith
+name-within Outside = omega arith
 
-pub numbers-within : (number handed : ℕ) → length (numbersText number handed) ≤ 42
-numbers-within number handed = simp length-append (omega (arith, decimal-within number, decimal-within handed))
+pub numbers-within : (frameNumber handed : ℕ) → length (numbersText frameNumber handed) ≤ 42
+numbers-within frameNumber handed = simp length-append (omega (arith, decimal-within frameNumber, decimal-within handed))

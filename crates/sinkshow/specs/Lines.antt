@@ -1,17 +1,17 @@
 -- The lines that the program writes (01, "The program sinkshow"), in ASCII. Assumes nothing.
+use mathlib.Core.Bool.{cond}
 use mathlib.Core.List.{List, [], _∷_, _++_}
 use Prim.Native.Nat.{ℕ, zero, suc, _/_, _%_}
 use lib.Dec.{ltb}
 use Rattle.io.specs.Digits.{glyph}
-use Rattle.bits.specs.Choice.{pick}
-use Rattle.standings.specs.declared.Count.{Count}
-use Rattle.standings.specs.declared.Count.the-variants.{Known, Unknown}
-use Rattle.standings.specs.Standing.{Finding}
+use Rattle.gmp_standing.specs.declared.Count.{Count}
+use Rattle.gmp_standing.specs.declared.Count.the-variants.{Known, Unknown}
+use Rattle.gmp_standing.specs.Standing.{Finding}
 
 -- the last decimal digits of n, at most so many: those of its whole tenth, where n is 10 or more, and the last one
 unfoldable pub lastDigits : ℕ → ℕ → List ℕ
 lastDigits zero n = []
-lastDigits (suc most) n = pick (ltb n 10) [] (lastDigits most (n / 10)) ++ (glyph (n % 10) ∷ [])
+lastDigits (suc most) n = cond (ltb n 10) [] (lastDigits most (n / 10)) ++ (glyph (n % 10) ∷ [])
 
 -- a number in decimal; 20 digits hold every number of 64 bits
 abbrev pub decimal : ℕ → List ℕ
@@ -40,7 +40,7 @@ countText Unknown = dash
 
 -- "frame number from 1, bytes handed,"
 abbrev pub numbersText : ℕ → ℕ → List ℕ
-numbersText number handed = decimal number ++ space ++ decimal handed ++ space
+numbersText frameNumber handed = decimal frameNumber ++ space ++ decimal handed ++ space
 
 -- "standing, count or "-""
 abbrev pub standingText : Finding → List ℕ
@@ -48,7 +48,7 @@ standingText f = f .name ++ space ++ countText (f .count) ++ newline
 
 -- "Per frame one line"
 abbrev pub frameLine : ℕ → ℕ → Finding → List ℕ
-frameLine number handed f = numbersText number handed ++ standingText f
+frameLine frameNumber handed f = numbersText frameNumber handed ++ standingText f
 
 -- "a last line, "LEFT", a space and its length"
 abbrev pub restLine : ℕ → List ℕ

@@ -4,10 +4,10 @@ use mathlib.Core.List.{List, _++_}
 use Prim.Native.Nat.{ℕ, _+_}
 use lib.ListN.{length, take}
 use Rattle.io.specs.Counts.{Counts}
-use Rattle.settings.specs.declared.Settings.{Settings}
-use Rattle.stuffing.specs.Frame.{controlOf}
-use Rattle.sink.specs.declared.SinkState.{SinkState}
-use Rattle.sink.specs.Sink.{handed, standingAfter, stateAfter}
+use Rattle.gmp_settings.specs.declared.Settings.{Settings}
+use Rattle.gmp_frame.specs.Frame.{controlOf}
+use Rattle.gmp_sink.specs.declared.SinkState.{SinkState}
+use Rattle.gmp_sink.specs.Sink.{handed, standingAfter, stateAfter}
 use Rattle.sinkshow.specs.declared.Shown.{Shown}
 use Rattle.sinkshow.specs.Lines.{frameLine}
 
@@ -23,6 +23,6 @@ pub record Puts (line : List ℕ) (at : ℕ) (text : List ℕ) (r : ℕ) (after 
   pub content : take r after ≡ take at line ++ text
 
 -- A frame taken by a sink in state z: its line, from the start of the buffer, and the sink's state after it.
-pub record Shows (number : ℕ) (z : SinkState) (frame : List ℕ) (line : List ℕ) (r : Shown) (after : List ℕ) : Type 0 where
-  pub made : Puts line 0 (frameLine number (length (handed small z frame)) (standingAfter small z (controlOf (small .k) frame))) (r .length) after
+pub record Shows (frameNumber : ℕ) (z : SinkState) (frame : List ℕ) (line : List ℕ) (r : Shown) (after : List ℕ) : Type 0 where
+  pub made : Puts line 0 (frameLine frameNumber (length (handed small z frame)) (standingAfter small z (controlOf (small .k) frame))) (r .length) after
   pub state : r .state ≡ stateAfter small z (controlOf (small .k) frame)

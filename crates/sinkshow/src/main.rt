@@ -1,18 +1,18 @@
 // Shows what a new sink makes of the 16-byte frames on standard input (K = 2, window 0 to 8): a line for each frame, and a last line where
 // the input ends within one. Every byte of a line is promised by the functions that make it.
+use gmp_settings::Settings;
+use gmp_sink::SinkAnswer;
+use gmp_sink::SinkState;
+use gmp_standing::Count;
+use gmp_standing::NAME_LENGTHS;
+use gmp_standing::NAMES;
+use gmp_standing::Standing;
 use libc::STDIN_FILENO;
-use settings::Settings;
-use sink::SinkAnswer;
-use sink::SinkState;
-use standings::Count;
-use standings::LETTERS;
-use standings::Standing;
-use standings::WORDS;
-use stream::Got;
+use program_stream::Got;
 ghost use mathlib.Core.Path.{_≡_};
 ghost use Prim.Native.Nat.{_+_, _≤_};
 ghost use lib.ListN.{length};
-ghost use Rattle.standings.specs.Standing.{said};
+ghost use Rattle.gmp_standing.specs.Standing.{standingMeaning};
 ghost use Rattle.sinkshow.specs.Lines.{decimal, countText, numbersText, standingText, restLine};
 ghost use Rattle.sinkshow.specs.Show.{Puts, Shows};
 
@@ -30,11 +30,11 @@ enum Next {
 
 // Shows frame after frame. A proved loop has to end: this one does at the largest frame number, which no run reaches.
 fn main() {
-    let mut state = sink::new_sink();
-    let mut number: u64 = 0;
-    while number < u64::MAX {
-        number += 1;
-        let next = show_next(number, state);
+    let mut state = gmp_sink::new_sink();
+    let mut frame_number: u64 = 0;
+    while frame_number < u64::MAX {
+        frame_number += 1;
+        let next = show_next(frame_number, state);
         let Next::From(after) = next else {
             return;
         };
@@ -43,14 +43,14 @@ fn main() {
 }
 
 // Reads the next frame and shows it, or what is left where the input ends.
-fn show_next(number: u64, state: SinkState) -> Next {
+fn show_next(frame_number: u64, state: SinkState) -> Next {
     let mut frame = [0u8; 16];
-    let got = stream::gather(STDIN_FILENO, &mut frame);
+    let got = program_stream::gather(STDIN_FILENO, &mut frame);
     let Got::Whole = got else {
         show_end(got);
         return Next::End;
     };
-    show_frame(number, state, &frame)
+    show_frame(frame_number, state, &frame)
 }
 
 // Shows what is left where the input ends, or says why it could not be read.
@@ -64,11 +64,11 @@ fn show_end(got: Got) {
 
 // Takes a frame and writes its line. Where that fails nothing more is shown. Three numbers of up to 20 digits, a word of up to 8 letters
 // and 4 bytes between and after them are 72 bytes.
-fn show_frame(number: u64, state: SinkState, frame: &[u8]) -> Next
+fn show_frame(frame_number: u64, state: SinkState, frame: &[u8]) -> Next
     requires { ⌜ length (now frame) ≡ 16 ⌝ }
 {
     let mut line = [0u8; 72];
-    let shown = take_frame(number, state, frame, &mut line);
+    let shown = take_frame(frame_number, state, frame, &mut line);
     let length = shown.length;
     let after = shown.state;
     if write_line(&line[..length]) {
@@ -89,17 +89,17 @@ fn show_rest(left: usize) {
 
 // Writes a line to standard output.
 fn write_line(line: &[u8]) -> bool {
-    stream::write_out(line, b"sinkshow: standard output")
+    program_stream::write_out(line, b"sinkshow: standard output")
 }
 
 // Hands a frame to the sink and makes its line. With 16 bytes, these settings and this output buffer no call is refused.
-fn take_frame(number: u64, state: SinkState, frame: &[u8], line: &mut [u8]) -> Shown
+fn take_frame(frame_number: u64, state: SinkState, frame: &[u8], line: &mut [u8]) -> Shown
     requires { ⌜ (length (now frame) ≡ 16) × (72 ≤ length (now line)) ⌝ }
-    ensures { λ r. ⌜ Shows number state (now (frame .entry)) (now (line .entry)) r (now (line .exit)) ⌝ }
+    ensures { λ r. ⌜ Shows «frame_number» state (now (frame .entry)) (now (line .entry)) r (now (line .exit)) ⌝ }
 {
     let settings = Settings { k: 2, lo: 0, hi: 8 };
     let mut out = [0u8; 8];
-    let result = demapping::take_frame(settings, state, frame, &mut out);
+    let result = gmp_sink_call::take_frame(settings, state, frame, &mut out);
     let answer = result.answer;
     let after = result.state;
     let SinkAnswer::Done(standing) = answer else {
@@ -108,7 +108,7 @@ fn take_frame(number: u64, state: SinkState, frame: &[u8], line: &mut [u8]) -> S
             state: after,
         };
     };
-    let at = put_numbers(line, number, result.handed);
+    let at = put_numbers(line, frame_number, result.handed);
     Shown {
         length: put_standing(line, at, standing),
         state: after,
@@ -127,11 +127,11 @@ fn put_rest(line: &mut [u8], left: usize) -> usize
 }
 
 // Begins a line with the frame number and the number of bytes handed out, a space behind each, and gives its length so far.
-fn put_numbers(line: &mut [u8], number: u64, handed: u32) -> usize
+fn put_numbers(line: &mut [u8], frame_number: u64, handed: u32) -> usize
     requires { ⌜ 42 ≤ length (now line) ⌝ }
-    ensures { λ r. ⌜ Puts (now (line .entry)) 0 (numbersText number handed) r (now (line .exit)) ⌝ }
+    ensures { λ r. ⌜ Puts (now (line .entry)) 0 (numbersText «frame_number» handed) r (now (line .exit)) ⌝ }
 {
-    let a = put_number(line, 0, number);
+    let a = put_number(line, 0, frame_number);
     line[a] = b' ';
     let b = put_number(line, a + 1, handed as u64);
     line[b] = b' ';
@@ -141,9 +141,9 @@ fn put_numbers(line: &mut [u8], number: u64, handed: u32) -> usize
 // Ends a line of `at` bytes so far with the standing, a space, its count or "-" and a newline, and gives the line's length.
 fn put_standing(line: &mut [u8], at: usize, standing: Standing) -> usize
     requires { ⌜ at + 30 ≤ length (now line) ⌝ }
-    ensures { λ r. ⌜ Puts (now (line .entry)) at (standingText (said standing)) r (now (line .exit)) ⌝ }
+    ensures { λ r. ⌜ Puts (now (line .entry)) at (standingText (standingMeaning standing)) r (now (line .exit)) ⌝ }
 {
-    let a = put_word(line, at, standing);
+    let a = put_name(line, at, standing);
     line[a] = b' ';
     let b = put_count(line, a + 1, standing);
     line[b] = b'\n';
@@ -151,23 +151,23 @@ fn put_standing(line: &mut [u8], at: usize, standing: Standing) -> usize
 }
 
 // Puts the word of a standing behind the first `at` bytes of a line, and gives the length then.
-fn put_word(line: &mut [u8], at: usize, standing: Standing) -> usize
+fn put_name(line: &mut [u8], at: usize, standing: Standing) -> usize
     requires { ⌜ at + 8 ≤ length (now line) ⌝ }
-    ensures { λ r. ⌜ Puts (now (line .entry)) at (said standing .name) r (now (line .exit)) ⌝ }
+    ensures { λ r. ⌜ Puts (now (line .entry)) at (standingMeaning standing .name) r (now (line .exit)) ⌝ }
 {
-    let place = standings::standing_number(standing) as usize - 1;
-    let words: &[u8] = &WORDS;
+    let place = gmp_standing::standing_number(standing) as usize - 1;
+    let names: &[u8] = &NAMES;
     let start = 8 * place;
-    let end = start + LETTERS[place];
-    put(line, at, &words[start..end])
+    let end = start + NAME_LENGTHS[place];
+    put(line, at, &names[start..end])
 }
 
 // Puts the count that a standing found there, or "-" where it found none.
 fn put_count(line: &mut [u8], at: usize, standing: Standing) -> usize
     requires { ⌜ at + 20 ≤ length (now line) ⌝ }
-    ensures { λ r. ⌜ Puts (now (line .entry)) at (countText (said standing .count)) r (now (line .exit)) ⌝ }
+    ensures { λ r. ⌜ Puts (now (line .entry)) at (countText (standingMeaning standing .count)) r (now (line .exit)) ⌝ }
 {
-    let count = standings::found_count(standing);
+    let count = gmp_standing::found_count(standing);
     let Count::Known(n) = count else {
         return put(line, at, b"-");
     };

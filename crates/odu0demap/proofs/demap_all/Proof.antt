@@ -1,14 +1,14 @@
--- `odu0demap::demap_all` meets its contract. The loop's number grows to the largest of 64 bits and no further. Assumes nothing.
+-- `odu0demap::demap_all` meets its contract. The frame number grows to the largest of 64 bits and no further. Assumes nothing.
 use Prim.Native.Nat.{_-_, _≤_}
 use borrow.Author.Needs.{needs}
 use Rattle.odu0demap.proofs.demap_all.Statement.{statement}
 use Rattle.odu0demap.proofs.demap_all.Tie as tie
 
 abbrev Inv-loop : tie.InvT-loop
-Inv-loop demapper₀ number₀ demapper number = number ≤ 18446744073709551615
+Inv-loop demapper₀ frameNumber₀ demapper frameNumber = frameNumber ≤ 18446744073709551615
 
 abbrev μ-loop : tie.MeasureT-loop
-μ-loop demapper₀ number₀ demapper number = 18446744073709551615 - number
+μ-loop demapper₀ frameNumber₀ demapper frameNumber = 18446744073709551615 - frameNumber
 
 new-demapper-requires : tie.Need-new-demapper-requires Inv-loop μ-loop
 new-demapper-requires c κs = search needs
@@ -16,8 +16,8 @@ new-demapper-requires c κs = search needs
 loop-holds : tie.Need-loop-holds Inv-loop μ-loop
 loop-holds c = search needs
 
-add-number : tie.Need-add-number Inv-loop μ-loop
-add-number c = search needs
+add-frame-number : tie.Need-add-frame-number Inv-loop μ-loop
+add-frame-number c = search needs
 
 take-next-requires : tie.Need-take-next-requires Inv-loop μ-loop
 take-next-requires c κs = search needs
@@ -51,7 +51,7 @@ demap-all-spec =
     μ-loop
     new-demapper-requires
     loop-holds
-    add-number
+    add-frame-number
     take-next-requires
     enum-known-next
     enum-told

@@ -2,7 +2,7 @@
 use native.Mathlib.Omega.{arith}
 use borrow.Author.Needs.{needs}
 use borrow.Author.Tests.{eq-eqb, ne-eqb}
-use Rattle.standings.specs.Standing.{said, standingNumber}
+use Rattle.gmp_standing.specs.Standing.{standingMeaning, standingNumber}
 use Rattle.odu0demap.proofs.is_same.Statement.{statement}
 use Rattle.odu0demap.proofs.is_same.Tie as tie
 
@@ -13,7 +13,7 @@ returns : tie.Need-returns
 returns c =
     let g = c .before .before .before .before .args in
     let w = c .before .before .standing-number in
-    simp (ne-eqb (standingNumber (said (g .standing) .name)) (g .before .word) (λ e. omega (arith, w .ensures, e)))
+    simp (ne-eqb (standingNumber (standingMeaning (g .standing) .name)) (g .before .last) (λ e. omega (arith, w .ensures, e)))
 
 found-count-requires : tie.Need-found-count-requires
 found-count-requires c κs = search needs
@@ -25,7 +25,7 @@ returns-2 : tie.Need-returns-2
 returns-2 c =
     let g = c .before .before .before .before .before .before .args in
     let w = c .before .before .before .before .standing-number in
-    simp (eq-eqb (standingNumber (said (g .standing) .name)) (g .before .word) (omega (arith, w .ensures))) (rw (c .is-same-count .ensures, c .before .found-count .ensures))
+    simp (eq-eqb (standingNumber (standingMeaning (g .standing) .name)) (g .before .last) (omega (arith, w .ensures))) (rw (c .is-same-count .ensures, c .before .found-count .ensures))
 
 pub is-same-spec : {M : Type 1} → statement M
 is-same-spec =

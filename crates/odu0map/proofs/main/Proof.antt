@@ -1,6 +1,6 @@
 -- `odu0map::main` meets its contract. Assumes nothing.
 use mathlib.Core.Path.{sym, ap, _∙_}
-use Rattle.odu0map.specs.Mapping.{startTold}
+use Rattle.odu0map.specs.Mapping.{startMeaning}
 use Rattle.odu0map.proofs.Laws.{starts-ready}
 use borrow.Author.Needs.{needs}
 use Rattle.odu0map.proofs.main.Statement.{statement}
@@ -37,7 +37,7 @@ map-all-requires : tie.Need-map-all-requires
 map-all-requires c κs =
     let a = c .before .before .before .before .before .asked .given .0 .0 in
     let m = c .before .start .given in
-    starts-ready a (m .0 .0) (sym (ap startTold (m .1)) ∙ c .before .before .before .new-mapper .ensures)
+    starts-ready a (m .0 .0) (sym (ap startMeaning (m .1)) ∙ c .before .before .before .new-mapper .ensures)
 
 enum-known-start-2 : tie.Need-enum-known-start-2
 enum-known-start-2 c = search needs

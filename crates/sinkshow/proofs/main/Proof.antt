@@ -1,14 +1,14 @@
--- `sinkshow::main` meets its contract. The loop's number grows to the largest of 64 bits and no further. Assumes nothing.
+-- `sinkshow::main` meets its contract. The frame number grows to the largest of 64 bits and no further. Assumes nothing.
 use Prim.Native.Nat.{_-_, _≤_}
 use borrow.Author.Needs.{needs}
 use Rattle.sinkshow.proofs.main.Statement.{statement}
 use Rattle.sinkshow.proofs.main.Tie as tie
 
 abbrev Inv-loop : tie.InvT-loop
-Inv-loop state₀ number₀ state number = number ≤ 18446744073709551615
+Inv-loop state₀ frameNumber₀ state frameNumber = frameNumber ≤ 18446744073709551615
 
 abbrev μ-loop : tie.MeasureT-loop
-μ-loop state₀ number₀ state number = 18446744073709551615 - number
+μ-loop state₀ frameNumber₀ state frameNumber = 18446744073709551615 - frameNumber
 
 new-sink-requires : tie.Need-new-sink-requires Inv-loop μ-loop
 new-sink-requires c κs = search needs
@@ -16,8 +16,8 @@ new-sink-requires c κs = search needs
 loop-holds : tie.Need-loop-holds Inv-loop μ-loop
 loop-holds c = search needs
 
-add-number : tie.Need-add-number Inv-loop μ-loop
-add-number c = search needs
+add-frame-number : tie.Need-add-frame-number Inv-loop μ-loop
+add-frame-number c = search needs
 
 show-next-requires : tie.Need-show-next-requires Inv-loop μ-loop
 show-next-requires c κs = search needs
@@ -48,7 +48,7 @@ main-spec =
     μ-loop
     new-sink-requires
     loop-holds
-    add-number
+    add-frame-number
     show-next-requires
     enum-known-next
     enum-told

@@ -14,7 +14,7 @@ slice-write-line : tie.Need-slice-write-line
 slice-write-line c =
     let g = c .before .before .before .before .before .args in
     let p = c .before .before .put-number in
-    omega (arith, p .ensures .next, p .ensures .kept, decimal-within (g .number))
+    omega (arith, p .ensures .next, p .ensures .kept, decimal-within (g .frame-number))
 
 add-put-number : tie.Need-add-put-number
 add-put-number c = search needs
@@ -23,21 +23,21 @@ put-number-requires-2 : tie.Need-put-number-requires-2
 put-number-requires-2 c κs =
     let g = c .before .before .before .before .before .before .args in
     let p = c .before .before .before .put-number in
-    omega (arith, p .ensures .next, p .ensures .kept, length-set (p .last .0) (p .result) 32, decimal-within (g .number))
+    omega (arith, p .ensures .next, p .ensures .kept, length-set (p .last .0) (p .result) 32, decimal-within (g .frame-number))
 
 slice-write-line-2 : tie.Need-slice-write-line-2
 slice-write-line-2 c =
     let g = c .before .before .before .before .before .before .before .before .before .args in
     let p = c .before .before .before .before .before .before .put-number in
     let q = c .before .before .put-number2 in
-    omega (arith, p .ensures .next, p .ensures .kept, length-set (p .last .0) (p .result) 32, decimal-within (g .number), q .ensures .next, q .ensures .kept, decimal-within (g .handed))
+    omega (arith, p .ensures .next, p .ensures .kept, length-set (p .last .0) (p .result) 32, decimal-within (g .frame-number), q .ensures .next, q .ensures .kept, decimal-within (g .handed))
 
 add-result : tie.Need-add-result
 add-result c =
     let g = c .before .before .before .before .before .before .before .before .before .args in
     let p = c .before .before .before .before .before .before .put-number in
     let q = c .before .before .put-number2 in
-    record { fits = omega (arith, p .ensures .next, p .ensures .kept, length-set (p .last .0) (p .result) 32, decimal-within (g .number), q .ensures .next, q .ensures .kept, decimal-within (g .handed)) }
+    record { fits = omega (arith, p .ensures .next, p .ensures .kept, length-set (p .last .0) (p .result) 32, decimal-within (g .frame-number), q .ensures .next, q .ensures .kept, decimal-within (g .handed)) }
 
 same-length : tie.Need-same-length
 same-length c =
@@ -50,8 +50,8 @@ returns c =
     let g = c .before .before .before .before .before .before .before .before .before .args in
     let p = c .before .before .before .before .before .before .put-number in
     let q = c .before .before .put-number2 in
-    let space = puts-byte (p .ensures) 32 (omega (arith, p .ensures .next, p .ensures .kept, decimal-within (g .number))) in
-    puts-byte (puts-append space (q .ensures)) 32 (omega (arith, p .ensures .next, p .ensures .kept, length-set (p .last .0) (p .result) 32, decimal-within (g .number), q .ensures .next, q .ensures .kept, decimal-within (g .handed)))
+    let space = puts-byte (p .ensures) 32 (omega (arith, p .ensures .next, p .ensures .kept, decimal-within (g .frame-number))) in
+    puts-byte (puts-append space (q .ensures)) 32 (omega (arith, p .ensures .next, p .ensures .kept, length-set (p .last .0) (p .result) 32, decimal-within (g .frame-number), q .ensures .next, q .ensures .kept, decimal-within (g .handed)))
 
 pub put-numbers-spec : {M : Type 1} → statement M
 put-numbers-spec =

@@ -34,7 +34,7 @@ put-standing-requires c κs =
     let g = c .before .before .before .before .before .before .before .before .before .before .before .before .before .before .args in
     let t = c .before .before .before .before .before .before .before .before .before .before .take-frame in
     let p = c .before .before .before .put-numbers .ensures in
-    omega (arith, p .next, p .kept, numbers-within (g .number) (t .result .handed))
+    omega (arith, p .next, p .kept, numbers-within (g .frame-number) (t .result .handed))
 
 same-length : tie.Need-same-length
 same-length c = search needs
@@ -47,7 +47,7 @@ returns-2 c =
     let done = c .before .before .before .before .before .before .before .before .before .answer .given .1 in
     let numbers = c .before .before .before .before .before .before .put-numbers .ensures in
     let standing = c .before .before .put-standing .ensures in
-    shown (g .state) (g .frame .now) _ (start .pre .0) refl (t .result) _ (t .ensures) (g .number) _ done _ _ _ _ _ numbers standing
+    shown (g .state) (g .frame .now) _ (start .pre .0) refl (t .result) _ (t .ensures) (g .frame-number) _ done _ _ _ _ _ numbers standing
 
 pub take-frame-spec : {M : Type 1} → statement M
 take-frame-spec =

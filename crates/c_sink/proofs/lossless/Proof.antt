@@ -1,0 +1,42 @@
+-- `c_sink::lossless` meets its contract: each case computes. Assumes nothing.
+use mathlib.Core.Path.{_≡_, refl, ap₂}
+use Prim.Native.Nat.{ℕ}
+use Rattle.gmp_settings.specs.Refusals.{accepted}
+use Rattle.gmp_standing.specs.declared.Count.{Count}
+use Rattle.gmp_standing.specs.declared.Count.the-variants.{Known, Unknown}
+use Rattle.gmp_standing.specs.declared.Standing.{Standing}
+use Rattle.gmp_standing.specs.declared.Standing.the-variants.{Read, Tracked, Paired, BadCheck, Waiting, Outside}
+use Rattle.gmp_standing.specs.Standing.{standingMeaning}
+use Rattle.gmp_control.specs.declared.Remembered.{Remembered}
+use Rattle.gmp_control.specs.declared.Remembered.the-variants.{Word, Nothing}
+use Rattle.gmp_sink.specs.declared.SinkState.{SinkState}
+use Rattle.c_sink.specs.declared.SinkNumbers.{SinkNumbers}
+use Rattle.c_sink.specs.Numbers.{countFrom, countFlag, countValue, wordFrom, wordFlag, wordValue, stateFrom, stateNumbers, sinkReplyBy}
+use Rattle.c_sink.specs.Lossless.{answerFrom}
+use Rattle.c_sink.proofs.lossless.Statement.{statement}
+use Rattle.c_sink.proofs.lossless.Tie as tie
+
+count-back : (c : Count) → countFrom (countFlag c) (countValue c) ≡ c
+count-back (Known n) = refl
+count-back Unknown = refl
+
+word-back : (w : Remembered) → wordFrom (wordFlag w) (wordValue w) ≡ w
+word-back (Word n) = refl
+word-back Nothing = refl
+
+state-back : (z : SinkState) → stateFrom (stateNumbers z) ≡ z
+state-back z = ap₂ (λ (c : Count) (w : Remembered). record { count = c; word = w }) (count-back (z .count)) (word-back (z .word))
+
+standing-back : (given : SinkNumbers) (x : Standing) (handed : ℕ) (z : SinkState) → answerFrom (sinkReplyBy given (accepted (standingMeaning x)) handed z) ≡ accepted (standingMeaning x)
+standing-back given (Read n) handed z = refl
+standing-back given (Tracked n) handed z = refl
+standing-back given (Paired n) handed z = refl
+standing-back given BadCheck handed z = refl
+standing-back given Waiting handed z = refl
+standing-back given Outside handed z = refl
+
+returns : tie.Need-returns
+returns c = record { state = state-back; standing = standing-back; refusal = λ given n handed z. refl; tally = λ y. refl }
+
+pub lossless-spec : {M : Type 1} → statement M
+lossless-spec = tie.close (tie.spec returns)

@@ -1,0 +1,16 @@
+-- `c_sink::state_from` meets its contract. Assumes nothing.
+use borrow.Author.Needs.{needs}
+use Rattle.c_sink.proofs.state_from.Statement.{statement}
+use Rattle.c_sink.proofs.state_from.Tie as tie
+
+count-from-requires : tie.Need-count-from-requires
+count-from-requires c κs = search needs
+
+word-from-requires : tie.Need-word-from-requires
+word-from-requires c κs = search needs
+
+returns : tie.Need-returns
+returns c = simp (c .word-from .ensures, c .before .count-from .ensures)
+
+pub state-from-spec : {M : Type 1} → statement M
+state-from-spec = tie.close (tie.spec count-from-requires word-from-requires returns)

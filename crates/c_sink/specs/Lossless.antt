@@ -1,0 +1,34 @@
+-- What crosses can be read back: no state, answer or tally is lost on the way out. Assumes nothing.
+use mathlib.Core.Path.{_≡_}
+use mathlib.Core.Bool.{cond}
+use mathlib.Core.List.{List}
+use Prim.Native.Nat.{ℕ}
+use lib.Dec.{eqb}
+use Rattle.gmp_settings.specs.Refusals.{Answer, accepted, refused}
+use Rattle.gmp_standing.specs.declared.Standing.{Standing}
+use Rattle.gmp_standing.specs.Standing.{Finding, finding, READ, TRACKED, PAIRED, BADCHECK, WAITING, OUTSIDE, standingMeaning}
+use Rattle.card_tally.specs.declared.Tally.{Tally}
+use Rattle.gmp_sink.specs.declared.SinkState.{SinkState}
+use Rattle.c_sink.specs.declared.SinkNumbers.{SinkNumbers}
+use Rattle.c_sink.specs.declared.SinkReply.{SinkReply}
+use Rattle.c_sink.specs.Numbers.{countFrom, stateFrom, stateNumbers, sinkReplyBy, tallyFrom, tallyNumbers}
+
+-- the word of a standing's number
+abbrev pub nameFrom : ℕ → List ℕ
+nameFrom k =
+    cond (eqb k 1) READ
+    (cond (eqb k 2) TRACKED
+    (cond (eqb k 3) PAIRED
+    (cond (eqb k 4) BADCHECK
+    (cond (eqb k 5) WAITING
+    OUTSIDE))))
+
+-- the answer that a reply stands for
+abbrev pub answerFrom : SinkReply → Answer Finding
+answerFrom r = cond (eqb (r .standing) 0) (refused (r .refusal)) (accepted (finding (nameFrom (r .standing)) (countFrom (r .found) (r .count))))
+
+pub record Lossless : Type 0 where
+  pub state : (z : SinkState) → stateFrom (stateNumbers z) ≡ z
+  pub standing : (given : SinkNumbers) (x : Standing) (handed : ℕ) (z : SinkState) → answerFrom (sinkReplyBy given (accepted (standingMeaning x)) handed z) ≡ accepted (standingMeaning x)
+  pub refusal : (given : SinkNumbers) (n handed : ℕ) (z : SinkState) → answerFrom (sinkReplyBy given (refused n) handed z) ≡ refused n
+  pub tally : (y : Tally) → tallyFrom (tallyNumbers y) ≡ y

@@ -1,0 +1,83 @@
+-- The sink's values as the plain numbers that C and Rust see, and back. What may be missing is a flag, 0 for none, beside a number. Assumes nothing.
+use mathlib.Core.Path.{_≡_}
+use mathlib.Core.Bool.{cond}
+use mathlib.Core.List.{List, [], _∷_}
+use Prim.Native.Nat.{ℕ}
+use lib.Dec.{eqb}
+use lib.ListN.{length, getD}
+use Rattle.gmp_settings.specs.declared.Settings.{Settings}
+use Rattle.gmp_settings.specs.Refusals.{Answer, accepted, refused}
+use Rattle.gmp_standing.specs.declared.Count.{Count}
+use Rattle.gmp_standing.specs.declared.Count.the-variants.{Known, Unknown}
+use Rattle.gmp_standing.specs.Standing.{Finding, standingNumber}
+use Rattle.gmp_control.specs.declared.Remembered.{Remembered}
+use Rattle.gmp_control.specs.declared.Remembered.the-variants.{Word, Nothing}
+use Rattle.card_tally.specs.declared.Tally.{Tally}
+use Rattle.gmp_sink.specs.declared.SinkState.{SinkState}
+use Rattle.gmp_sink.specs.Sink.{sinkAnswer, sinkState, sinkHanded, sinkOut}
+use Rattle.card_sink.specs.Card.{tallyAfter}
+use Rattle.c_sink.specs.declared.SinkNumbers.{SinkNumbers}
+use Rattle.c_sink.specs.declared.SinkReply.{SinkReply}
+
+-- a count or none
+abbrev pub countFrom : ℕ → ℕ → Count
+countFrom flag n = cond (eqb flag 0) Unknown (Known n)
+
+abbrev pub countFlag : Count → ℕ
+countFlag (Known n) = 1
+countFlag Unknown = 0
+
+abbrev pub countValue : Count → ℕ
+countValue (Known n) = n
+countValue Unknown = 0
+
+-- a remembered word or none
+abbrev pub wordFrom : ℕ → ℕ → Remembered
+wordFrom flag n = cond (eqb flag 0) Nothing (Word n)
+
+abbrev pub wordFlag : Remembered → ℕ
+wordFlag (Word n) = 1
+wordFlag Nothing = 0
+
+abbrev pub wordValue : Remembered → ℕ
+wordValue (Word n) = n
+wordValue Nothing = 0
+
+-- the sink's state that any four numbers stand for, and the four numbers of a state
+abbrev pub stateFrom : SinkNumbers → SinkState
+stateFrom x = record { count = countFrom (x .known) (x .count); word = wordFrom (x .remembered) (x .word) }
+
+abbrev pub stateNumbers : SinkState → SinkNumbers
+stateNumbers z =
+    record { known = countFlag (z .count); count = countValue (z .count); remembered = wordFlag (z .word); word = wordValue (z .word) }
+
+-- The reply of a sink call from the numbers x. A refused call returns the very numbers that it was given.
+abbrev pub sinkReplyBy : SinkNumbers → Answer Finding → ℕ → SinkState → SinkReply
+sinkReplyBy x (accepted f) handed z =
+    record {
+      refusal = 0;
+      standing = standingNumber (f .name);
+      found = countFlag (f .count);
+      count = countValue (f .count);
+      handed = handed;
+      state = stateNumbers z;
+    }
+sinkReplyBy x (refused n) handed z =
+    record { refusal = n; standing = 0; found = 0; count = 0; handed = handed; state = x }
+
+-- a sink call from the numbers x, over the lists of its buffers
+abbrev pub sinkReply : Settings → SinkNumbers → SinkState → List ℕ → List ℕ → SinkReply
+sinkReply s x z frame out = sinkReplyBy x (sinkAnswer s z frame out) (length (sinkHanded s z frame out)) (sinkState s z frame out)
+
+-- the tally as three numbers in a row
+abbrev pub tallyFrom : List ℕ → Tally
+tallyFrom l = record { frames = getD l 0 0; bad = getD l 1 0; bytes = getD l 2 0 }
+
+abbrev pub tallyNumbers : Tally → List ℕ
+tallyNumbers y = y .frames ∷ y .bad ∷ y .bytes ∷ []
+
+-- What the sink call promises: its reply, every byte of the output buffer, and the three numbers of the tally.
+pub record SinkCallPromise (s : Settings) (x : SinkNumbers) (frame out tally : List ℕ) (r : SinkReply) (out-after tally-after : List ℕ) : Type 0 where
+  pub reply : r ≡ sinkReply s x (stateFrom x) frame out
+  pub out-buffer : out-after ≡ sinkOut s (stateFrom x) frame out
+  pub tally-numbers : tally-after ≡ tallyNumbers (tallyAfter s (stateFrom x) frame out (tallyFrom tally))

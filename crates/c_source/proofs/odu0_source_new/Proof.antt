@@ -1,0 +1,18 @@
+-- `c_source::odu0_source_new` meets its contract. Assumes nothing.
+use mathlib.Core.Path.{_∙_, ap}
+use borrow.Author.Needs.{needs}
+use Rattle.c_source.specs.Numbers.{startReply}
+use Rattle.c_source.proofs.odu0_source_new.Statement.{statement}
+use Rattle.c_source.proofs.odu0_source_new.Tie as tie
+
+new-source-requires : tie.Need-new-source-requires
+new-source-requires c κs = search needs
+
+start-reply-requires : tie.Need-start-reply-requires
+start-reply-requires c κs = search needs
+
+returns : tie.Need-returns
+returns c = c .start-reply .ensures ∙ ap startReply (c .before .new-source .ensures)
+
+pub odu0-source-new-spec : {M : Type 1} → statement M
+odu0-source-new-spec = tie.close (tie.spec new-source-requires start-reply-requires returns)

@@ -1,0 +1,151 @@
+-- Demand 3: from the lists of accepted calls, beside each other, to the frames by their numbers. Assumes nothing.
+use mathlib.Core.Path.{_≡_, refl, ap, _∙_, subst}
+use mathlib.Core.Logic.{_⊎_, inl, inr, ⊎-map}
+use mathlib.Core.List.{List, [], _∷_}
+use Prim.Native.Nat.{ℕ, zero, suc, _+_, _-_, _≤_, _<_}
+use native.Mathlib.Omega.{arith}
+use lib.ListN.{length, drop, length-drop}
+use Rattle.gmp_crc8.specs.Check.{budget}
+use Rattle.gmp_settings.specs.declared.Settings.{Settings}
+use Rattle.gmp_standing.specs.declared.Count.{Count}
+use Rattle.gmp_standing.specs.declared.Count.the-variants.{Known, Unknown}
+use Rattle.gmp_control.proofs.Reading.{NoneOr}
+use Rattle.gmp_source.specs.declared.SourceState.{SourceState}
+use Rattle.gmp_sink.specs.declared.SinkState.{SinkState}
+use Rattle.gmp_sink.specs.Sink.{newSink}
+use Rattle.claim_recovery.specs.Runs.{At, Nth, SourceCall, SinkCall, SourceStep, SinkStep, sourceSteps, sinkSteps, sinkEnd, countOf}
+use Rattle.claim_recovery.specs.Demand.{SourceRun, Reads, Unharmed, AtMostWrong, Delivers, Recovery, NoFalseCount, Demand3}
+use Rattle.claim_recovery.proofs.Lists.{Each, to-each, each-at, at-drop, drop-at, nth-at, at-nth, nth-same}
+use Rattle.claim_recovery.proofs.Threads.{Chain, chain, chain-drop, Thread, thread}
+use Rattle.claim_recovery.proofs.Along.{countAfter, recovers, never-false}
+
+-- the last frame read, and the count after it
+last-read : (Lent : SourceStep → SinkStep → Type 0) (old : ℕ) (xs : List SourceStep) (ys : List SinkStep) (i : ℕ) → length ys ≡ suc i → Each Lent xs ys
+    → (x : SourceStep) × At xs i x × (countAfter old xs ys ≡ countOf x)
+last-read Lent old xs [] i l r = absurd (omega arith)
+last-read Lent old [] (y ∷ ys) i l r = absurd r
+last-read Lent old (x ∷ xs) (y ∷ []) zero l r = (x, refl, refl)
+last-read Lent old (x ∷ xs) (y ∷ []) (suc i) l r = absurd (omega arith)
+last-read Lent old (x ∷ xs) (y ∷ y₂ ∷ ys) zero l r = absurd (omega arith)
+last-read Lent old (x ∷ xs) (y ∷ y₂ ∷ ys) (suc i) l r = last-read Lent (countOf x) xs (y₂ ∷ ys) i (omega arith) (r .1)
+
+module _ (s : Settings) (source : SourceState) (calls : List SourceCall) (run : SourceRun s source calls) where
+  abbrev sent : List SourceStep
+  sent = sourceSteps source calls
+
+  -- the frames from m on
+  frames : (k : ℕ) → (n : ℕ) × Chain s n (drop k sent)
+  frames k = chain-drop s k (source .count) sent (chain s source calls (λ i x p. run .shared (suc i) x p))
+
+  module _ (Lent : SourceStep → SinkStep → Type 0) (m n : ℕ) (z : SinkState) (reader : List SinkCall) (reads : Reads s sent Lent m n z reader) where
+    abbrev heard : List SinkStep
+    heard = sinkSteps z reader
+
+    told : Thread s z heard (sinkEnd z reader)
+    told = thread s z reader (λ i y p. reads .shared (suc i) y p)
+
+    beside : Each Lent (drop (m - 1) sent) heard
+    beside =
+        let one = reads .from in
+        to-each Lent (drop (m - 1) sent) heard
+        (λ i y p. let h = reads .lent (suc i) y p in (h .0, drop-at sent (m - 1) i (m - 1 + i) (h .0) refl (nth-at sent (m + suc i - 1) (m - 1 + i) (h .0) (omega arith) (h .1)), h .2))
+
+    -- the last frame read is frame n
+    ends : (old : ℕ) → 0 < length heard → (x : SourceStep) × Nth sent n x × (countAfter old (drop (m - 1) sent) heard ≡ countOf x)
+    ends old h =
+        let one = reads .from in
+        let up = reads .up-to in
+        let l = last-read Lent old (drop (m - 1) sent) heard (length heard - 1) (omega arith) beside in
+        (l .0, at-nth sent n (m - 1 + (length heard - 1)) (l .0) (omega arith) (at-drop sent (m - 1) (length heard - 1) (m - 1 + (length heard - 1)) (l .0) refl (l .1)), l .2)
+
+  -- One sink in any state from frame m, up to frame n, n at least m + 1.
+  module _ (m n : ℕ) (z : SinkState) (reader : List SinkCall) (reads : Reads s sent Unharmed m n z reader) (far : m + 1 ≤ n) where
+    two : 2 ≤ length (sinkSteps z reader)
+    two = let up = reads .up-to in omega arith
+
+    recovered : (sinkEnd z reader .count ≡ Known (countAfter (frames (m - 1) .0) (drop (m - 1) sent) (sinkSteps z reader)))
+        × Each Delivers (drop 2 (drop (m - 1) sent)) (drop 2 (sinkSteps z reader))
+    recovered =
+        recovers s (frames (m - 1) .0) (drop (m - 1) sent) z (sinkSteps z reader) (sinkEnd z reader) (frames (m - 1) .1)
+        (told Unharmed m n z reader reads) (beside Unharmed m n z reader reads) two
+
+    holds : (x : SourceStep) × Nth sent n x × (sinkEnd z reader .count ≡ Known (countOf x))
+    holds =
+        let w = two in
+        let l = ends Unharmed m n z reader reads (frames (m - 1) .0) (omega arith) in
+        (l .0, l .1, recovered .0 ∙ ap Known (l .2))
+
+    delivers : (i : ℕ) → m + 2 ≤ i → i ≤ n → (x : SourceStep) × (y : SinkStep) × Nth sent i x × Nth (sinkSteps z reader) (i + 1 - m) y × Delivers x y
+    delivers i low high =
+        let one = reads .from in
+        let up = reads .up-to in
+        let j : ℕ = i - m - 2 in
+        let h = each-at Delivers (drop 2 (drop (m - 1) sent)) (drop 2 (sinkSteps z reader)) (i - m - 2) (rw length-drop (omega arith)) (recovered .1) in
+        let p = at-drop (drop (m - 1) sent) 2 (i - m - 2) (i - m) (h .0) (omega arith) (h .2) in
+        let q = at-drop (sinkSteps z reader) 2 (i - m - 2) (i - m) (h .1) (omega arith) (h .3) in (
+          h .0,
+          h .1,
+          at-nth sent i (i - 1) (h .0) (omega arith) (at-drop sent (m - 1) (i - m) (i - 1) (h .0) (omega arith) p),
+          at-nth (sinkSteps z reader) (i + 1 - m) (i - m) (h .1) (omega arith) q,
+          h .4,
+        )
+
+recovers-both : Recovery
+recovers-both s source calls run m n far fromFirst reads z fromAny reads₂ =
+    let one = reads₂ .from in
+    let a = holds s source calls run 1 n newSink fromFirst reads (omega arith) in
+    let b = holds s source calls run m n z fromAny reads₂ far in
+    let e = nth-same (sourceSteps source calls) n (b .0) (a .0) (b .1) (a .1) in
+    record {
+      hold = (a .0, a .1, a .2, b .2 ∙ ap (λ (x : SourceStep). Known (countOf x)) e);
+      deliver = λ i low high.
+          let d = delivers s source calls run 1 n newSink fromFirst reads (omega arith) i (omega arith) high in
+          let f = delivers s source calls run m n z fromAny reads₂ far i low high in
+          let g = nth-same (sourceSteps source calls) i (f .0) (d .0) (f .2) (d .2) in
+          let k : i + 1 - 1 ≡ i = omega arith in (
+            d .0,
+            d .1,
+            f .1,
+            d .2,
+            subst (λ (j : ℕ). Nth (sinkSteps newSink fromFirst) j (d .1)) k (d .3),
+            f .3,
+            d .4,
+            subst (λ (x : SourceStep). Delivers x (f .1)) g (f .4),
+          );
+    }
+
+none-or : (c : Count) (n : ℕ) → NoneOr (λ (m : ℕ). m ≡ n) c → (c ≡ Unknown) ⊎ (c ≡ Known n)
+none-or (Known m) n h = inr (ap Known h)
+none-or Unknown n h = inl refl
+
+-- The second claim, over the budget of the check.
+few-wrong-bits : NoFalseCount budget
+few-wrong-bits s source calls run m n reader reads = record { count = by (sinkSteps newSink reader) refl; none = unread }
+  where
+    old : ℕ
+    old = frames s source calls run (m - 1) .0
+
+    end : SinkState
+    end = sinkEnd newSink reader
+
+    heard-all : Thread s newSink (sinkSteps newSink reader) end
+    heard-all = told s source calls run (AtMostWrong budget s) m n newSink reader reads
+
+    safe : NoneOr (λ (c : ℕ). c ≡ countAfter old (drop (m - 1) (sourceSteps source calls)) (sinkSteps newSink reader)) (end .count)
+    safe =
+        never-false s old (drop (m - 1) (sourceSteps source calls)) (sinkSteps newSink reader) end (frames s source calls run (m - 1) .1)
+        heard-all (beside s source calls run (AtMostWrong budget s) m n newSink reader reads)
+
+    unread : sinkSteps newSink reader ≡ [] → end .count ≡ Unknown
+    unread e = ap (λ (q : SinkState). q .count) (subst (λ (ys : List SinkStep). Thread s newSink ys end) e heard-all)
+
+    by : (ys : List SinkStep) → sinkSteps newSink reader ≡ ys
+        → (end .count ≡ Unknown) ⊎ ((x : SourceStep) × Nth (sourceSteps source calls) n x × (end .count ≡ Known (countOf x)))
+    by [] e = inl (unread e)
+    by (y ∷ ys) e =
+        let l : length (sinkSteps newSink reader) ≡ suc (length ys) = ap length e in
+        let last = ends s source calls run (AtMostWrong budget s) m n newSink reader reads old (omega arith) in
+        ⊎-map (λ c. c) (λ c. (last .0, last .1, c ∙ ap Known (last .2))) (none-or (end .count) _ safe)
+
+pub demand : Demand3
+demand = record { recovery = recovers-both; no-false-count = few-wrong-bits }

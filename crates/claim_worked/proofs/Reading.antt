@@ -1,0 +1,82 @@
+-- Every source run can be read. Assumes nothing.
+use mathlib.Core.Path.{_≡_, refl, sym, ap, _∙_, subst}
+use mathlib.Core.Bool.{Bool, true, false, cond}
+use mathlib.Core.List.{List, [], _∷_}
+use Prim.Native.Nat.{ℕ, zero, suc, _+_, _-_, _≤_, _<_}
+use native.Mathlib.Nat.{le-of-suc-le-suc}
+use native.Mathlib.Omega.{arith}
+use lib.ListN.{length, drop, replicate, length-replicate, length-drop}
+use borrow.Author.Tests.{eq-eqb, le-ltb}
+use Rattle.gmp_settings.specs.declared.Settings.{Settings}
+use Rattle.gmp_settings.specs.Grid.{frameBytes}
+use Rattle.gmp_settings.proofs.Laws.{all-passed, own-lines-decide}
+use Rattle.gmp_source.specs.declared.SourceState.{SourceState}
+use Rattle.gmp_source.specs.Source.{sourceReasons, sourceRefusal}
+use Rattle.gmp_source.proofs.Laws.{frame-accepted, length-of-written}
+use Rattle.gmp_sink.specs.declared.SinkState.{SinkState}
+use Rattle.gmp_sink.specs.Sink.{sinkReasons, sinkRefusal}
+use Rattle.claim_recovery.specs.Runs.{At, Nth, Bytes, SourceCall, SinkCall, SourceStep, SinkStep, sinkAfter, sourceSteps, sinkSteps, frameOf}
+use Rattle.claim_recovery.specs.Demand.{SourceRun, Reads, Unharmed}
+use Rattle.claim_recovery.proofs.Lists.{Each, at-drop}
+use Rattle.claim_recovery.proofs.Threads.{Link, Chain, chain, chain-drop}
+use Rattle.claim_worked.specs.Readable.{Readable}
+use Rattle.claim_worked.proofs.Build.{All, reads-by}
+
+-- settings that a source call passed pass in a sink call
+sink-takes : (s : Settings) (z : SourceState) (next c b f o : ℕ) → sourceRefusal s z next c b ≡ 0 → f ≡ frameBytes (s .k) → s .hi ≤ o → sinkRefusal s f o ≡ 0
+unfolding sourceRefusal sinkRefusal
+sink-takes s z next c b f o e l h =
+    own-lines-decide s (sinkReasons s f o) (all-passed s (sourceReasons s z next c b) e .0)
+    ∙ simp (eq-eqb f (frameBytes (s .k)) l, le-ltb o (s .hi) h)
+
+-- the calls that are lent the first j of these frames
+abbrev FramesBytes : List SourceStep → Type 0
+FramesBytes xs = All (λ (x : SourceStep). Bytes (frameOf x)) xs
+
+abbrev room : Settings → List ℕ
+room s = replicate (s .hi) 0
+
+abbrev reader : (s : Settings) (xs : List SourceStep) → FramesBytes xs → ℕ → List SinkCall
+reader s xs b zero = []
+reader s [] b (suc j) = []
+reader s (x ∷ xs) b (suc j) = record { settings = s; frame = frameOf x; bytes = b .0; out = room s } ∷ reader s xs (b .1) j
+
+-- all of them are accepted
+pub record Taken (s : Settings) (xs : List SourceStep) (j : ℕ) (ys : List SinkStep) : Type 0 where
+  pub shared : All (λ (y : SinkStep). y .call .settings ≡ s) ys
+  pub beside : Each Unharmed xs ys
+  pub long : length ys ≡ j
+
+-- a sink with the settings of a source takes each of its frames
+taken : (s : Settings) (old : ℕ) (x : SourceStep) → Link s old x → sinkRefusal s (length (frameOf x)) (length (room s)) ≡ 0
+taken s old x link =
+    subst (λ (u : Settings). sinkRefusal u (length (frameOf x)) (length (room u)) ≡ 0) (link .settings)
+    (sink-takes (x .call .settings) (x .state) (x .call .next) (length (x .call .client)) (length (x .call .buffer)) (length (frameOf x)) (length (room (x .call .settings)))
+    (link .taken)
+    (ap length (frame-accepted (x .call .settings) (x .state) (x .call .next) (x .call .client) (x .call .buffer) (link .taken))
+    ∙ length-of-written (x .call .settings) (x .state) (x .call .next) (x .call .client))
+    (omega (arith, length-replicate {A = ℕ} (x .call .settings .hi) 0)))
+
+all-taken : (s : Settings) (old : ℕ) (xs : List SourceStep) (b : FramesBytes xs) (j : ℕ) (z : SinkState) → Chain s old xs → j ≤ length xs → Taken s xs j (sinkSteps z (reader s xs b j))
+unfolding sinkSteps
+all-taken s old xs b zero z c h = record { shared = tt; beside = tt; long = refl }
+all-taken s old [] b (suc j) z c h = absurd (omega arith)
+all-taken s old (x ∷ xs) b (suc j) z c h =
+    let y : SinkStep = record { call = record { settings = s; frame = frameOf x; bytes = b .0; out = room s }; state = z } in
+    let rest = sinkSteps (sinkAfter y) (reader s xs (b .1) j) in
+    let ih = all-taken s (x .call .next) xs (b .1) j (sinkAfter y) (c .1) (le-of-suc-le-suc h) in
+    subst (λ (d : Bool). Taken s (x ∷ xs) (suc j) (cond d (y ∷ rest) rest)) (sym (eq-eqb _ 0 (taken s old x (c .0))))
+    (record { shared = (refl, ih .shared); beside = (refl, ih .beside); long = ap suc (ih .long) })
+
+all-from : {A : Type 0} (P : A → Type 0) (l : List A) → ((i : ℕ) (x : A) → At l i x → P x) → All P l
+all-from P [] f = tt
+all-from P (x ∷ l) f = (f zero x refl, all-from P l (λ i y p. f (suc i) y p))
+
+pub readable : Readable
+readable s source calls run bytes z m n one low high =
+    let sent = sourceSteps source calls in
+    let c = chain-drop s (m - 1) (source .count) sent (chain s source calls (λ i x p. run .shared (suc i) x p)) in
+    let b = all-from (λ (x : SourceStep). Bytes (frameOf x)) (drop (m - 1) sent) (λ i x p. bytes (suc (m - 1 + i)) x (at-drop sent (m - 1) i (m - 1 + i) x refl p)) in
+    let k = all-taken s (c .0) (drop (m - 1) sent) b (n + 1 - m) z (c .1) (rw length-drop (omega arith)) in
+    let l = k .long in
+    (reader s (drop (m - 1) sent) b (n + 1 - m), reads-by s sent Unharmed m n z (reader s (drop (m - 1) sent) b (n + 1 - m)) one (k .shared) (k .beside) (omega arith))

@@ -1,0 +1,159 @@
+-- The worked run, by computing the definitions, and what does not do: fewer frames, or more wrong bits. Assumes nothing.
+use mathlib.Core.Path.{_≡_, refl, sym, ap, _∙_}
+use mathlib.Core.Bool.{Bool, true, false, cond, xor}
+use mathlib.Core.List.{List, [], _∷_}
+use mathlib.Core.Logic.{⊎-elim}
+use Prim.Native.Nat.{ℕ, _+_}
+use native.Mathlib.Omega.{arith}
+use lib.Dec.{lit≤}
+use lib.ListN.{getD}
+use Rattle.math.specs.Bits.{bits, differing}
+use Rattle.gmp_crc8.specs.Division.{reduce, divide}
+use Rattle.gmp_crc8.specs.Check.{remainder, passes, word, budget}
+use Rattle.gmp_settings.specs.declared.Settings.{Settings}
+use Rattle.gmp_settings.specs.Refusals.{Answer, accepted, refused}
+use Rattle.gmp_settings.specs.Settings.{outside}
+use Rattle.gmp_standing.specs.declared.Count.the-variants.{Known, Unknown}
+use Rattle.gmp_standing.specs.Standing.{Finding, finding, READ, TRACKED, PAIRED, BADCHECK, WAITING}
+use Rattle.gmp_standing.specs.Known.{inWindow}
+use Rattle.gmp_control.specs.declared.Remembered.the-variants.{Word, Nothing}
+use Rattle.gmp_control.specs.Word.{equalIndicators}
+use Rattle.gmp_control.specs.Pattern.{tableOf}
+use Rattle.gmp_control.specs.Announce.{announced}
+use Rattle.gmp_control.specs.Follow.{usable, tracked, candidate, paired, reading, foundBy}
+use Rattle.gmp_stuffing.specs.Places.{places, placed, tabulate, chosen}
+use Rattle.gmp_frame.specs.Frame.{row, frame, columns, payload, clientBytes, controlOf}
+use Rattle.gmp_source.specs.declared.SourceState.{SourceState}
+use Rattle.gmp_source.specs.Source.{startRefusal, newSource, sourceRefusal, controlBytes, written, sourceState, sourceFrame}
+use Rattle.gmp_sink.specs.declared.SinkState.{SinkState}
+use Rattle.gmp_sink.specs.Sink.{newSink, sinkRefusal, handed, standingAfter, stateAfter, sinkAnswer, sinkState, sinkHanded, sinkOut}
+use Rattle.claim_recovery.specs.Runs.{Nth, SourceCall, SinkCall, SourceStep, SinkStep, sourceSteps, sinkSteps, sinkEnd, countOf, answerOf}
+use Rattle.claim_recovery.specs.Demand.{SourceRun, Reads, Unharmed, AtMostWrong, equalFrame, NoFalseCount}
+use Rattle.claim_worked.specs.Less.{HoldsAfter, DeliversAfter, NoLess}
+use Rattle.claim_worked.specs.Run.{small, source, calls, send, room, frame1, frame2, hear, fromFirst, lost, fromAny, noisy, WorkedRun}
+use Rattle.claim_worked.proofs.Build.{all-nth, reads-by}
+
+run : SourceRun small source calls
+unfolding sourceSteps sinkSteps sinkEnd sourceRefusal sourceState sourceFrame newSource startRefusal written controlBytes announced frame row tabulate placed places remainder divide reduce bits outside sinkRefusal sinkAnswer sinkState sinkHanded sinkOut handed standingAfter stateAfter controlOf foundBy reading inWindow usable tracked candidate paired equalIndicators passes clientBytes chosen payload columns word differing xor tableOf
+run =
+    record {
+      made-with = small;
+      first = 3;
+      payload-type = 7;
+      made = refl;
+      shared = all-nth (λ (x : SourceStep). x .call .settings ≡ small) (sourceSteps source calls) (refl, (refl, (refl, (refl, (refl, (refl, tt))))));
+    }
+
+pub worked-run : WorkedRun
+unfolding sourceSteps sinkSteps sinkEnd sourceRefusal sourceState sourceFrame newSource startRefusal written controlBytes announced frame row tabulate placed places remainder divide reduce bits outside sinkRefusal sinkAnswer sinkState sinkHanded sinkOut handed standingAfter stateAfter controlOf foundBy reading inWindow usable tracked candidate paired equalIndicators passes clientBytes chosen payload columns word differing xor tableOf
+worked-run =
+    record {
+      source-run = run;
+      written = refl;
+      new-reads = reads-by small (sourceSteps source calls) Unharmed 1 6 newSink fromFirst (lit≤ tt) (refl, (refl, (refl, (refl, (refl, (refl, tt))))))
+          (refl, (refl, (refl, (refl, (refl, (refl, tt)))))) refl;
+      new-answers = refl;
+      new-holds = refl;
+      lost-reads = reads-by small (sourceSteps source calls) Unharmed 2 6 lost fromAny (lit≤ tt) (refl, (refl, (refl, (refl, (refl, tt)))))
+          (refl, (refl, (refl, (refl, (refl, tt))))) refl;
+      lost-answers = refl;
+      lost-holds = refl;
+      noisy-reads = reads-by small (sourceSteps source calls) (AtMostWrong budget small) 2 5 newSink noisy (lit≤ tt) (refl, (refl, (refl, (refl, tt))))
+          (lit≤ tt, (lit≤ tt, (lit≤ tt, (lit≤ tt, tt)))) refl;
+      noisy-answers = refl;
+      noisy-holds = refl;
+    }
+
+-- After one frame the new sink waits.
+abbrev one : List SinkCall
+one = hear small frame1 tt room ∷ []
+
+reads-one : Reads small (sourceSteps source calls) Unharmed 1 1 newSink one
+unfolding sourceSteps sinkSteps sinkEnd sourceRefusal sourceState sourceFrame newSource startRefusal written controlBytes announced frame row tabulate placed places remainder divide reduce bits outside sinkRefusal sinkAnswer sinkState sinkHanded sinkOut handed standingAfter stateAfter controlOf foundBy reading inWindow usable tracked candidate paired equalIndicators passes clientBytes chosen payload columns word differing xor tableOf
+reads-one = reads-by small (sourceSteps source calls) Unharmed 1 1 newSink one (lit≤ tt) (refl, tt) (refl, tt) refl
+
+waits : (n : ℕ) → sinkEnd newSink one .count ≡ Known n → ⊥
+unfolding sourceSteps sinkSteps sinkEnd sourceRefusal sourceState sourceFrame newSource startRefusal written controlBytes announced frame row tabulate placed places remainder divide reduce bits outside sinkRefusal sinkAnswer sinkState sinkHanded sinkOut handed standingAfter stateAfter controlOf foundBy reading inWindow usable tracked candidate paired equalIndicators passes clientBytes chosen payload columns word differing xor tableOf
+waits n e = let z : _≡_ {A = ℕ} 0 1 = cc in omega arith
+
+not-after-one : HoldsAfter 0 → ⊥
+not-after-one h = let w = h small source calls run 1 1 (lit≤ tt) one reads-one in waits (countOf (w .0)) (w .2)
+
+-- The second frame is answered PAIRED.
+abbrev two : List SinkCall
+two = hear small frame1 tt room ∷ hear small frame2 tt room ∷ []
+
+reads-two : Reads small (sourceSteps source calls) Unharmed 1 2 newSink two
+unfolding sourceSteps sinkSteps sinkEnd sourceRefusal sourceState sourceFrame newSource startRefusal written controlBytes announced frame row tabulate placed places remainder divide reduce bits outside sinkRefusal sinkAnswer sinkState sinkHanded sinkOut handed standingAfter stateAfter controlOf foundBy reading inWindow usable tracked candidate paired equalIndicators passes clientBytes chosen payload columns word differing xor tableOf
+reads-two = reads-by small (sourceSteps source calls) Unharmed 1 2 newSink two (lit≤ tt) (refl, (refl, tt)) (refl, (refl, tt)) refl
+
+pairs : (y : SinkStep) → Nth (sinkSteps newSink two) 2 y → answerOf y ≡ accepted (finding PAIRED (Known 6))
+unfolding sourceSteps sinkSteps sinkEnd sourceRefusal sourceState sourceFrame newSource startRefusal written controlBytes announced frame row tabulate placed places remainder divide reduce bits outside sinkRefusal sinkAnswer sinkState sinkHanded sinkOut handed standingAfter stateAfter controlOf foundBy reading inWindow usable tracked candidate paired equalIndicators passes clientBytes chosen payload columns word differing xor tableOf
+pairs y e = ap answerOf (sym e) ∙ refl
+
+-- the words begin with different letters
+abbrev letter : Answer Finding → ℕ
+letter (accepted f) = getD (f .name) 0 0
+letter (refused n) = 0
+
+not-paired : (b : Bool) (n : ℕ) (a : Answer Finding) → a ≡ accepted (finding PAIRED (Known 6)) → a ≡ accepted (finding (cond b READ TRACKED) (Known n)) → ⊥
+not-paired true n a p q = omega (arith, ap letter (sym p ∙ q))
+not-paired false n a p q = omega (arith, ap letter (sym p ∙ q))
+
+not-from-second : DeliversAfter 1 → ⊥
+not-from-second h =
+    let w = h small source calls run 1 2 (lit≤ tt) two reads-two 2 (lit≤ tt) (lit≤ tt) in
+    not-paired (equalFrame (w .0)) (countOf (w .0)) (answerOf (w .1)) (pairs (w .1) (w .3)) (w .4 .standing)
+
+-- Four wrong control bits make a false count: 00 00 00 is lent as 00 10 D0.
+abbrev quiet : SourceState
+quiet = record { count = 0; multiframe = 0; «payload_type» = 0 }
+
+abbrev silence : List SourceCall
+silence = send small 0 [] ∷ []
+
+abbrev harmed : List ℕ
+harmed = 0 ∷ 0 ∷ 0 ∷ 0 ∷ 0 ∷ 16 ∷ 0 ∷ 0 ∷ 0 ∷ 208 ∷ 0 ∷ 0 ∷ 0 ∷ 0 ∷ 0 ∷ 0 ∷ []
+
+quiet-run : SourceRun small quiet silence
+unfolding sourceSteps sinkSteps sinkEnd sourceRefusal sourceState sourceFrame newSource startRefusal written controlBytes announced frame row tabulate placed places remainder divide reduce bits outside sinkRefusal sinkAnswer sinkState sinkHanded sinkOut handed standingAfter stateAfter controlOf foundBy reading inWindow usable tracked candidate paired equalIndicators passes clientBytes chosen payload columns word differing xor tableOf
+quiet-run =
+    record {
+      made-with = small;
+      first = 0;
+      payload-type = 0;
+      made = refl;
+      shared = all-nth (λ (x : SourceStep). x .call .settings ≡ small) (sourceSteps quiet silence) (refl, tt);
+    }
+
+abbrev deceived : List SinkCall
+deceived = hear small harmed tt room ∷ []
+
+reads-harmed : Reads small (sourceSteps quiet silence) (AtMostWrong (budget + 1) small) 1 1 newSink deceived
+unfolding sourceSteps sinkSteps sinkEnd sourceRefusal sourceState sourceFrame newSource startRefusal written controlBytes announced frame row tabulate placed places remainder divide reduce bits outside sinkRefusal sinkAnswer sinkState sinkHanded sinkOut handed standingAfter stateAfter controlOf foundBy reading inWindow usable tracked candidate paired equalIndicators passes clientBytes chosen payload columns word differing xor tableOf
+reads-harmed = reads-by small (sourceSteps quiet silence) (AtMostWrong (budget + 1) small) 1 1 newSink deceived (lit≤ tt) (refl, tt) (lit≤ tt, tt) refl
+
+false-count : sinkEnd newSink deceived .count ≡ Known 4
+unfolding sourceSteps sinkSteps sinkEnd sourceRefusal sourceState sourceFrame newSource startRefusal written controlBytes announced frame row tabulate placed places remainder divide reduce bits outside sinkRefusal sinkAnswer sinkState sinkHanded sinkOut handed standingAfter stateAfter controlOf foundBy reading inWindow usable tracked candidate paired equalIndicators passes clientBytes chosen payload columns word differing xor tableOf
+false-count = refl
+
+count-zero : (x : SourceStep) → Nth (sourceSteps quiet silence) 1 x → countOf x ≡ 0
+unfolding sourceSteps sinkSteps sinkEnd sourceRefusal sourceState sourceFrame newSource startRefusal written controlBytes announced frame row tabulate placed places remainder divide reduce bits outside sinkRefusal sinkAnswer sinkState sinkHanded sinkOut handed standingAfter stateAfter controlOf foundBy reading inWindow usable tracked candidate paired equalIndicators passes clientBytes chosen payload columns word differing xor tableOf
+count-zero x e = ap countOf (sym e)
+
+not-with-four : NoFalseCount (budget + 1) → ⊥
+not-with-four h = ⊎-elim none some (h small quiet silence quiet-run 1 1 deceived reads-harmed .count)
+  where
+    none : sinkEnd newSink deceived .count ≡ Unknown → ⊥
+    none e = let f = false-count in let z : _≡_ {A = ℕ} 0 1 = cc in omega arith
+
+    some : (x : SourceStep) × Nth (sourceSteps quiet silence) 1 x × (sinkEnd newSink deceived .count ≡ Known (countOf x)) → ⊥
+    some w =
+        let f = false-count in
+        let g = count-zero (w .0) (w .1) in
+        let k = w .2 in
+        let z : 4 ≡ countOf (w .0) = cc in
+        omega arith
+
+pub no-less : NoLess
+no-less = record { one-frame = not-after-one; second-frame = not-from-second; one-bit-more = not-with-four }

@@ -1,0 +1,34 @@
+-- Demand 3 with numbers of frames and wrong bits that are open: 2, 1 and 3 are demand 3 itself. Assumes nothing.
+use mathlib.Core.Path.{_≡_}
+use mathlib.Core.List.{List}
+use Prim.Native.Nat.{ℕ, _+_, _-_, _≤_}
+use Rattle.gmp_crc8.specs.Check.{budget}
+use Rattle.gmp_settings.specs.declared.Settings.{Settings}
+use Rattle.gmp_standing.specs.declared.Count.the-variants.{Known}
+use Rattle.gmp_source.specs.declared.SourceState.{SourceState}
+use Rattle.gmp_sink.specs.declared.SinkState.{SinkState}
+use Rattle.gmp_sink.specs.Sink.{newSink}
+use Rattle.claim_recovery.specs.Runs.{Nth, SourceCall, SinkCall, SourceStep, SinkStep, sourceSteps, sinkSteps, sinkEnd, countOf}
+use Rattle.claim_recovery.specs.Demand.{SourceRun, Reads, Unharmed, Delivers, NoFalseCount}
+
+-- the new sink holds count n, n at least m + least
+abbrev pub HoldsAfter : ℕ → Type 0
+HoldsAfter least =
+    (s : Settings) (source : SourceState) (calls : List SourceCall) → SourceRun s source calls
+    → (m n : ℕ) → m + least ≤ n
+    → (reader : List SinkCall) → Reads s (sourceSteps source calls) Unharmed m n newSink reader
+    → (x : SourceStep) × Nth (sourceSteps source calls) n x × (sinkEnd newSink reader .count ≡ Known (countOf x))
+
+-- and delivers each frame from m + gap
+abbrev pub DeliversAfter : ℕ → Type 0
+DeliversAfter gap =
+    (s : Settings) (source : SourceState) (calls : List SourceCall) → SourceRun s source calls
+    → (m n : ℕ) → m + 1 ≤ n
+    → (reader : List SinkCall) → Reads s (sourceSteps source calls) Unharmed m n newSink reader
+    → (i : ℕ) → m + gap ≤ i → i ≤ n → (x : SourceStep) × (y : SinkStep) × Nth (sourceSteps source calls) i x × Nth (sinkSteps newSink reader) (i + 1 - m) y × Delivers x y
+
+-- After one frame a sink need not hold the count; frame m + 1 need not be delivered; four wrong bits can give a false count.
+pub record NoLess : Type 0 where
+  pub one-frame : HoldsAfter 0 → ⊥
+  pub second-frame : DeliversAfter 1 → ⊥
+  pub one-bit-more : NoFalseCount (budget + 1) → ⊥

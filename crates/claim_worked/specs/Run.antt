@@ -1,0 +1,155 @@
+-- A run on the grid K = 2 with the window 0 to 8: a source with steps of every size, read by a new sink, by a sink that knows a false count and a
+-- false word, and by a new sink over a hit; refused calls stand in all. Assumes nothing.
+use mathlib.Core.Path.{_≡_, refl, sym, subst}
+use mathlib.Core.Bool.{Bool, true, false, cond}
+use mathlib.Core.List.{List, [], _∷_}
+use Prim.Native.Nat.{ℕ, _<_}
+use lib.Dec.{T, ltb, ltb→lt}
+use Rattle.gmp_crc8.specs.Check.{budget}
+use Rattle.gmp_settings.specs.declared.Settings.{Settings}
+use Rattle.gmp_settings.specs.Refusals.{Answer, accepted}
+use Rattle.gmp_standing.specs.declared.Count.the-variants.{Known, Unknown}
+use Rattle.gmp_standing.specs.Standing.{Finding, finding, READ, TRACKED, PAIRED, BADCHECK, WAITING}
+use Rattle.gmp_control.specs.declared.Remembered.the-variants.{Word}
+use Rattle.gmp_source.specs.declared.SourceState.{SourceState}
+use Rattle.gmp_sink.specs.declared.SinkState.{SinkState}
+use Rattle.gmp_sink.specs.Sink.{newSink}
+use Rattle.claim_recovery.specs.Runs.{Bytes, SourceCall, SinkCall, SourceStep, SinkStep, sourceSteps, sinkSteps, sinkEnd, frameOf, answerOf}
+use Rattle.claim_recovery.specs.Demand.{SourceRun, Reads, Unharmed, AtMostWrong}
+
+-- a list of bytes, by a test
+abbrev pub areBytes : List ℕ → Bool
+areBytes [] = true
+areBytes (b ∷ l) = cond (ltb b 256) (areBytes l) false
+
+bytes-by : (b : ℕ) (l : List ℕ) (c : Bool) → ltb b 256 ≡ c → T (cond c (areBytes l) false) → (T (areBytes l) → Bytes l) → (b < 256) × Bytes l
+bytes-by b l true e h f = (ltb→lt b 256 (subst T (sym e) tt), f h)
+bytes-by b l false e h f = absurd h
+
+pub bytes : (l : List ℕ) → T (areBytes l) → Bytes l
+bytes [] h = tt
+bytes (b ∷ l) h = bytes-by b l (ltb b 256) refl h (bytes l)
+
+-- the settings of all, and others that number 1 turns back
+abbrev pub small : Settings
+small = record { k = 2; lo = 0; hi = 8 }
+
+abbrev pub wrong : Settings
+wrong = record { k = 0; lo = 0; hi = 8 }
+
+-- a buffer of a frame's length
+abbrev pub room : List ℕ
+room = 9 ∷ 9 ∷ 9 ∷ 9 ∷ 9 ∷ 9 ∷ 9 ∷ 9 ∷ 9 ∷ 9 ∷ 9 ∷ 9 ∷ 9 ∷ 9 ∷ 9 ∷ 9 ∷ []
+
+abbrev pub send : Settings → ℕ → List ℕ → SourceCall
+send s next client = record { settings = s; next = next; client = client; buffer = room }
+
+-- A source of count 3: +1, refused (grid), +2, -1, refused (count), -2, 0, and to 7.
+abbrev pub source : SourceState
+source = record { count = 3; multiframe = 0; «payload_type» = 7 }
+
+abbrev pub calls : List SourceCall
+calls =
+    send small 4 (11 ∷ 12 ∷ 13 ∷ [])
+    ∷ send wrong 4 (11 ∷ 12 ∷ 13 ∷ 14 ∷ [])
+    ∷ send small 6 (21 ∷ 22 ∷ 23 ∷ 24 ∷ [])
+    ∷ send small 5 (31 ∷ 32 ∷ 33 ∷ 34 ∷ 35 ∷ 36 ∷ [])
+    ∷ send small 9 (41 ∷ 42 ∷ 43 ∷ 44 ∷ 45 ∷ [])
+    ∷ send small 3 (41 ∷ 42 ∷ 43 ∷ 44 ∷ 45 ∷ [])
+    ∷ send small 3 (51 ∷ 52 ∷ 53 ∷ [])
+    ∷ send small 7 (61 ∷ 62 ∷ 63 ∷ [])
+    ∷ []
+
+-- the six frames that it writes
+abbrev pub frame1 : List ℕ
+frame1 = 0 ∷ 170 ∷ 0 ∷ 0 ∷ 0 ∷ 166 ∷ 11 ∷ 0 ∷ 0 ∷ 10 ∷ 0 ∷ 12 ∷ 7 ∷ 0 ∷ 0 ∷ 13 ∷ []
+
+abbrev pub frame2 : List ℕ
+frame2 = 0 ∷ 102 ∷ 0 ∷ 21 ∷ 0 ∷ 118 ∷ 0 ∷ 22 ∷ 0 ∷ 25 ∷ 0 ∷ 23 ∷ 0 ∷ 0 ∷ 0 ∷ 24 ∷ []
+
+abbrev pub frame3 : List ℕ
+frame3 = 0 ∷ 85 ∷ 0 ∷ 31 ∷ 0 ∷ 77 ∷ 32 ∷ 33 ∷ 0 ∷ 147 ∷ 0 ∷ 34 ∷ 0 ∷ 0 ∷ 35 ∷ 36 ∷ []
+
+abbrev pub frame4 : List ℕ
+frame4 = 0 ∷ 153 ∷ 0 ∷ 41 ∷ 0 ∷ 141 ∷ 0 ∷ 42 ∷ 0 ∷ 80 ∷ 43 ∷ 0 ∷ 0 ∷ 0 ∷ 44 ∷ 45 ∷ []
+
+abbrev pub frame5 : List ℕ
+frame5 = 0 ∷ 0 ∷ 0 ∷ 0 ∷ 0 ∷ 12 ∷ 51 ∷ 0 ∷ 0 ∷ 92 ∷ 0 ∷ 52 ∷ 0 ∷ 0 ∷ 0 ∷ 53 ∷ []
+
+abbrev pub frame6 : List ℕ
+frame6 = 0 ∷ 0 ∷ 0 ∷ 0 ∷ 0 ∷ 31 ∷ 61 ∷ 0 ∷ 0 ∷ 155 ∷ 0 ∷ 62 ∷ 0 ∷ 0 ∷ 0 ∷ 63 ∷ []
+
+abbrev pub hear : Settings → (f : List ℕ) → T (areBytes f) → List ℕ → SinkCall
+hear s f h out = record { settings = s; frame = f; bytes = bytes f h; out = out }
+
+-- A new sink from frame 1 to 6, with refused calls: the grid, and 7 bytes of output where hi is 8.
+abbrev pub fromFirst : List SinkCall
+fromFirst =
+    hear small frame1 tt room
+    ∷ hear wrong frame1 tt room
+    ∷ hear small frame2 tt room
+    ∷ hear small frame1 tt (1 ∷ 2 ∷ 3 ∷ 4 ∷ 5 ∷ 6 ∷ 7 ∷ [])
+    ∷ hear small frame3 tt room
+    ∷ hear small frame4 tt room
+    ∷ hear small frame5 tt room
+    ∷ hear small frame6 tt room
+    ∷ []
+
+-- A sink with a false count and a false word from frame 2 to 6.
+abbrev pub lost : SinkState
+lost = record { count = Known 7; word = Word 21845 }
+
+abbrev pub fromAny : List SinkCall
+fromAny =
+    hear small frame2 tt room
+    ∷ hear small frame3 tt room
+    ∷ hear small [] tt room
+    ∷ hear small frame4 tt room
+    ∷ hear small frame5 tt room
+    ∷ hear small frame6 tt room
+    ∷ []
+
+-- A hit: frame 3 with one wrong bit in each control byte, and frame 5 with nothing whole but its control bytes.
+abbrev pub hit3 : List ℕ
+hit3 = 0 ∷ 84 ∷ 0 ∷ 31 ∷ 0 ∷ 76 ∷ 32 ∷ 33 ∷ 0 ∷ 146 ∷ 0 ∷ 34 ∷ 0 ∷ 0 ∷ 35 ∷ 36 ∷ []
+
+abbrev pub hit5 : List ℕ
+hit5 = 255 ∷ 0 ∷ 255 ∷ 255 ∷ 255 ∷ 12 ∷ 255 ∷ 255 ∷ 255 ∷ 92 ∷ 255 ∷ 255 ∷ 255 ∷ 255 ∷ 255 ∷ 255 ∷ []
+
+-- A new sink from frame 2 to 5, over the hit.
+abbrev pub noisy : List SinkCall
+noisy =
+    hear small frame2 tt room
+    ∷ hear small hit3 tt room
+    ∷ hear wrong frame3 tt room
+    ∷ hear small frame4 tt room
+    ∷ hear small hit5 tt room
+    ∷ []
+
+abbrev pub frames : List SourceStep → List (List ℕ)
+frames [] = []
+frames (x ∷ xs) = frameOf x ∷ frames xs
+
+abbrev pub answers : List SinkStep → List (Answer Finding)
+answers [] = []
+answers (y ∷ ys) = answerOf y ∷ answers ys
+
+abbrev pub says : List ℕ → ℕ → Answer Finding
+says name n = accepted (finding name (Known n))
+
+abbrev pub silent : List ℕ → Answer Finding
+silent name = accepted (finding name Unknown)
+
+-- The hypotheses of demand 3 hold of these runs, and they go so.
+pub record WorkedRun : Type 0 where
+  pub source-run : SourceRun small source calls
+  pub written : frames (sourceSteps source calls) ≡ frame1 ∷ frame2 ∷ frame3 ∷ frame4 ∷ frame5 ∷ frame6 ∷ []
+  pub new-reads : Reads small (sourceSteps source calls) Unharmed 1 6 newSink fromFirst
+  pub new-answers : answers (sinkSteps newSink fromFirst) ≡ silent WAITING ∷ says PAIRED 6 ∷ says TRACKED 5 ∷ says TRACKED 3 ∷ says READ 3 ∷ says READ 7 ∷ []
+  pub new-holds : sinkEnd newSink fromFirst .count ≡ Known 7
+  pub lost-reads : Reads small (sourceSteps source calls) Unharmed 2 6 lost fromAny
+  pub lost-answers : answers (sinkSteps lost fromAny) ≡ silent WAITING ∷ says PAIRED 5 ∷ says TRACKED 3 ∷ says READ 3 ∷ says READ 7 ∷ []
+  pub lost-holds : sinkEnd lost fromAny .count ≡ Known 7
+  pub noisy-reads : Reads small (sourceSteps source calls) (AtMostWrong budget small) 2 5 newSink noisy
+  pub noisy-answers : answers (sinkSteps newSink noisy) ≡ silent WAITING ∷ silent BADCHECK ∷ silent WAITING ∷ says READ 3 ∷ []
+  pub noisy-holds : sinkEnd newSink noisy .count ≡ Known 3

@@ -1,0 +1,25 @@
+// Worked frames, and what shows that demand 3 is neither empty nor more than it need be.
+ghost use Rattle.claim_worked.specs.Starred.{AllHold, starred};
+ghost use Rattle.claim_worked.specs.Run.{WorkedRun};
+ghost use Rattle.claim_worked.specs.Readable.{Readable};
+ghost use Rattle.claim_worked.specs.Less.{NoLess};
+
+// The starred cases of the paper hold.
+pub fn starred_cases()
+    ensures { λ _. ⌜ AllHold starred ⌝ }
+{}
+
+// A worked run, with refused calls, steps of every size and a hit in it.
+pub fn worked_run()
+    ensures { λ _. ⌜ WorkedRun ⌝ }
+{}
+
+// Every source run can be read by any sink, from any frame up to any later one.
+pub fn readable_runs()
+    ensures { λ _. ⌜ Readable ⌝ }
+{}
+
+// One frame does not find the count, the second is not yet delivered, and four wrong bits can make it false.
+pub fn no_less()
+    ensures { λ _. ⌜ NoLess ⌝ }
+{}

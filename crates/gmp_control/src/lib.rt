@@ -1,0 +1,71 @@
+// The control word of a frame: its parts, the inversion patterns, and what source and sink can rely on. What a source announces by the word
+// is in the crate announce, how a sink's count follows it in the crate follow.
+use gmp_settings::Settings;
+use gmp_standing::Count;
+use gmp_standing::Standing;
+ghost use mathlib.Core.Path.{_≡_};
+ghost use Rattle.gmp_control.specs.Word.{moved};
+ghost use Rattle.gmp_control.specs.Pattern.{tableOf, patternAt, changeAt};
+ghost use Rattle.gmp_control.specs.Claims.{TablesServe};
+
+// The two bytes of a word before its check.
+pub struct WordBytes {
+    pub jc1: u8,
+    pub jc2: u8,
+}
+
+// The word of the frame before, as JC1 times 256 plus JC2, where one is remembered.
+pub enum Remembered {
+    Word(u32),
+    Nothing,
+}
+
+// What a word leads to: the standing, the new count and the word to remember.
+pub struct Followed {
+    pub standing: Standing,
+    pub count: Count,
+    pub word: Remembered,
+}
+
+// The inversion patterns, C1 to C14, of the changes +1, -1, +2, -2.
+const PATTERNS: [u32; 4] = [
+    0b10101010101010,
+    0b01010101010101,
+    0b01100110011001,
+    0b10011001100110,
+];
+
+// The same changes modulo 16,384.
+const CHANGES: [u32; 4] = [1, 16383, 2, 16382];
+
+// The pattern of a change, from the table of the settings. A change is 0 to 3; any further number stands for none, and inverts nothing.
+pub fn pattern(settings: Settings, change: usize) -> u32
+    ensures { λ r. ⌜ r ≡ patternAt (tableOf settings) change ⌝ }
+{
+    if change < 4 {
+        return PATTERNS[change];
+    }
+    0
+}
+
+// A count after a change. Where that is none it stays, modulo 16,384.
+pub fn move_count(count: u32, change: usize) -> u32
+    ensures { λ r. ⌜ r ≡ moved count (changeAt change) ⌝ }
+{
+    (count % 16384 + change_at(change)) % 16384
+}
+
+// Every table of patterns that keeps the rule serves: a true count is followed, and two words in succession find the count from any state.
+pub fn tables_serve()
+    ensures { λ _. ⌜ TablesServe ⌝ }
+{}
+
+// A change, modulo 16,384.
+fn change_at(change: usize) -> u32
+    ensures { λ r. ⌜ r ≡ changeAt change ⌝ }
+{
+    if change < 4 {
+        return CHANGES[change];
+    }
+    0
+}

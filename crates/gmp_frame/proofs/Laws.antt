@@ -1,0 +1,53 @@
+-- What other crates cite: that a frame gives back what was written to it, and what is left in a buffer where all fits. Assumes nothing.
+use mathlib.Core.Path.{_≡_, _∙_}
+use mathlib.Core.List.{List, _++_}
+use Prim.Native.Nat.{ℕ, _+_, _*_, _≤_}
+use native.Mathlib.Omega.{arith}
+use lib.ListN.{length, drop, length-append}
+use lib.Seq.{take-length}
+use borrow.Author.Tests.{eq-eqb, le-leb}
+use Rattle.gmp_settings.specs.Grid.{payloadBytes, frameBytes}
+use Rattle.gmp_frame.specs.declared.Control.{Control}
+use Rattle.gmp_frame.specs.Frame.{frame, payload, clientBytes, controlOf, frameWritten, clientTaken}
+use Rattle.gmp_stuffing.proofs.Steps.{count-all, length-first, chosen-placed}
+use Rattle.gmp_frame.proofs.Rows.{length-row, length-payload, payload-frame, second, row0, row1, row2}
+
+-- "4K + 8 bytes in all"
+pub length-frame : (k : ℕ) (client : List ℕ) (control : Control) (psi : ℕ) → length (frame k client control psi) ≡ frameBytes k
+unfolding frame
+length-frame k client control psi = simp (length-append, length-row) (omega arith)
+
+-- the control bytes of a frame are those that were written
+pub control-written : (k : ℕ) (client : List ℕ) (control : Control) (psi : ℕ) → controlOf k (frame k client control psi) ≡ control
+unfolding controlOf
+control-written k client control psi =
+    rw (
+      second (row0 k client control psi) 1 (omega arith),
+      second (row1 k client control psi) (k + 3) (omega arith),
+      second (row2 k client control psi) (2 * k + 5) (omega arith),
+    )
+
+-- "what was written is what is taken out"
+pub client-taken : (k : ℕ) (client : List ℕ) (control : Control) (psi : ℕ) → length client ≤ payloadBytes k
+    → clientBytes k (length client) (frame k client control psi) ≡ client
+unfolding clientBytes
+client-taken k client control psi le =
+    rw (payload-frame k client control psi, chosen-placed (4 * k) client le (4 * k) (omega arith), count-all (length client) (4 * k) le, take-length)
+
+-- as many client bytes are taken out of a frame as the count says
+pub length-client : (k C : ℕ) (bytes : List ℕ) → C ≤ payloadBytes k → length bytes ≡ frameBytes k → length (clientBytes k C bytes) ≡ C
+unfolding clientBytes
+length-client k C bytes le l = length-first C (4 * k) le (payload k bytes) ∙ rw (length-payload k bytes l, count-all C (4 * k) le)
+
+-- a buffer of a frame's length holds the frame, where the client bytes fit
+pub written-fits : (k : ℕ) (client : List ℕ) (control : Control) (psi : ℕ) (buffer : List ℕ) → length buffer ≡ frameBytes k → length client ≤ payloadBytes k
+    → frameWritten k client control psi buffer ≡ frame k client control psi
+unfolding frameWritten
+written-fits k client control psi buffer l le = simp (eq-eqb (length buffer) (4 * k + 8) l, le-leb (length client) (4 * k) le)
+
+-- a buffer with room for them begins with the client bytes of the frame, where the count fits
+pub taken-fits : (k C : ℕ) (bytes out : List ℕ) → length bytes ≡ frameBytes k → C ≤ payloadBytes k → C ≤ length out
+    → clientTaken k C bytes out ≡ clientBytes k C bytes ++ drop C out
+unfolding clientTaken
+taken-fits k C bytes out l le room =
+    simp (eq-eqb (length bytes) (4 * k + 8) l, le-leb C (4 * k) le, le-leb C (length out) room)

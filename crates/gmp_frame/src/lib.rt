@@ -1,0 +1,34 @@
+// The frame of the generic mapper: its layout of four rows, with the payload bytes at the stuffing places. Writing a frame is in the crate
+// framing, taking the client bytes out of one in the crate extraction.
+ghost use mathlib.Core.Path.{_≡_};
+ghost use lib.ListN.{getD};
+ghost use Rattle.gmp_frame.specs.Frame.{controlOf};
+
+// The three control bytes of a frame.
+pub struct Control {
+    pub jc1: u8,
+    pub jc2: u8,
+    pub jc3: u8,
+}
+
+// The control bytes of a frame on a grid of k columns; zero for those that a short frame does not have.
+pub fn control_of(frame_in: &[u8], k: u32) -> Control
+    ensures { λ r. ⌜ r ≡ controlOf k (now («frame_in» .entry)) ⌝ }
+{
+    let columns = k as usize;
+    let a = byte_at(frame_in, 1);
+    let b = byte_at(frame_in, columns + 3);
+    let c = byte_at(frame_in, 2 * columns + 5);
+    Control {
+        jc1: a,
+        jc2: b,
+        jc3: c,
+    }
+}
+
+// The byte at an index, or zero past the end.
+fn byte_at(bytes: &[u8], i: usize) -> u8
+    ensures { λ r. ⌜ r ≡ getD (now (bytes .entry)) i 0 ⌝ }
+{
+    if i < bytes.len() { bytes[i] } else { 0 }
+}

@@ -1,0 +1,91 @@
+-- The sum of a keeper's counts. Over any list of calls q times the sum and the last remainder are what came in: the first remainder, and p for
+-- each count given. Assumes nothing.
+use mathlib.Core.Path.{_≡_, refl, sym, ap, _∙_, subst}
+use mathlib.Core.Bool.{Bool, true, false, true≢false}
+use mathlib.Core.List.{List, [], _∷_, _++_}
+use Prim.Native.Nat.{ℕ, _+_, _*_, _/_, _%_, _<_}
+use native.Mathlib.Nat.{add-mul, suc-mul, zero-mul, div-add-mod', mod-lt}
+use native.Mathlib.Omega.{arith}
+use lib.Arith.{digits-div}
+use lib.Dec.{eqb}
+use lib.ListN.{length}
+use borrow.Author.Tests.{eqb-true, eqb-false}
+use Rattle.gmp_settings.specs.Refusals.{accepted, accepts}
+use Rattle.gmp_settings.specs.Settings.{outside}
+use Rattle.gmp_rate.specs.Rate.{Kept, keeperRefusal, keeperCall, firstRemainder}
+use Rattle.gmp_rate.specs.Sum.{KeeperCall, answered, given, countsFrom, SharedRate, sum, CountsAddUp}
+use Rattle.gmp_rate.proofs.Laws.{accepted-knows, count-inside, call-accepted, call-refused}
+
+-- the last remainder, with what is known of it
+record Balance (p q r : ℕ) (counts : List ℕ) : Type 0 where
+  last : ℕ
+  below : last < q
+  same : sum counts * q + last ≡ r + length counts * p
+
+-- one more count in front
+more : (p q r : ℕ) (counts : List ℕ) → Balance p q ((r + p) % q) counts → Balance p q r ((r + p) / q ∷ counts)
+unfolding sum
+more p q r counts b =
+    record {
+      last = b .last;
+      below = b .below;
+      same = omega (arith, b .same, add-mul ((r + p) / q) (sum counts) q, div-add-mod' (r + p) q, suc-mul (length counts) p);
+    }
+
+balance : (p q r : ℕ) → r < q → (calls : List KeeperCall) → SharedRate p q r calls → Balance p q r (countsFrom r calls)
+unfolding countsFrom SharedRate sum
+balance p q r h [] shared = record { last = r; below = h; same = omega (arith, zero-mul q, zero-mul p) }
+balance p q r h (c ∷ cs) shared =
+    by (eqb n 0) refl (λ e. balance p q ((r + p) % q) (mod-lt (r + p) (omega arith)) cs e) (λ e. balance p q r h cs e)
+  where
+    n : ℕ
+    n = keeperRefusal (c .settings) (c .p) (c .q) r
+
+    by : (b : Bool) → eqb (keeperRefusal (c .settings) (c .p) (c .q) r) 0 ≡ b
+        → (SharedRate p q ((r + p) % q) cs → Balance p q ((r + p) % q) (countsFrom ((r + p) % q) cs))
+        → (SharedRate p q r cs → Balance p q r (countsFrom r cs)) → Balance p q r (countsFrom r (c ∷ cs))
+    by true t later same =
+        let z = eqb-true (keeperRefusal (c .settings) (c .p) (c .q) r) 0 t in
+        let k = call-accepted (c .settings) (c .p) (c .q) r z in
+        let pq = shared .0 (ap (λ (x : Kept). accepts (x .answer)) k) in
+        let k′ : answered c r ≡ record { answer = accepted ((r + p) / q); remainder = (r + p) % q } =
+        k ∙ ap (λ (x : ℕ). record { answer = accepted ((r + x) / c .q); remainder = (r + x) % c .q }) (pq .0)
+        ∙ ap (λ (x : ℕ). record { answer = accepted ((r + p) / x); remainder = (r + p) % x }) (pq .1) in
+        subst (Balance p q r) (sym (ap (λ (x : Kept). given (x .answer) ++ countsFrom (x .remainder) cs) k′))
+        (more p q r (countsFrom ((r + p) % q) cs) (later (subst (λ (x : ℕ). SharedRate p q x cs) (ap (λ (x : Kept). x .remainder) k′) (shared .1))))
+    by false t later same =
+        let k = call-refused (c .settings) (c .p) (c .q) r (eqb-false (keeperRefusal (c .settings) (c .p) (c .q) r) 0 t) in
+        subst (Balance p q r) (sym (ap (λ (x : Kept). given (x .answer) ++ countsFrom (x .remainder) cs) k))
+        (same (subst (λ (x : ℕ). SharedRate p q x cs) (ap (λ (x : Kept). x .remainder) k) (shared .1)))
+
+from-any : (p q r : ℕ) → r < q → (calls : List KeeperCall) → SharedRate p q r calls → sum (countsFrom r calls) ≡ (r + length (countsFrom r calls) * p) / q
+from-any p q r h calls shared =
+    let b = balance p q r h calls shared in
+    sym (digits-div (sum (countsFrom r calls)) (b .below)) ∙ ap (λ (x : ℕ). x / q) (b .same)
+
+new : (p q : ℕ) (calls : List KeeperCall) → 0 < q → SharedRate p q (firstRemainder q) calls
+    → sum (countsFrom (firstRemainder q) calls) ≡ length (countsFrom (firstRemainder q) calls) * p / q
+unfolding firstRemainder
+new p q calls h shared =
+    let z : 0 + length (countsFrom 0 calls) * p ≡ length (countsFrom 0 calls) * p = omega arith in
+    from-any p q 0 h calls shared ∙ ap (λ (x : ℕ). x / q) z
+
+in-window : (c : KeeperCall) (r n : ℕ) → answered c r .answer ≡ accepted n → outside (c .settings) n ≡ false
+in-window c r n e = by (eqb (keeperRefusal (c .settings) (c .p) (c .q) r) 0) refl
+  where
+    by : (b : Bool) → eqb (keeperRefusal (c .settings) (c .p) (c .q) r) 0 ≡ b → outside (c .settings) n ≡ false
+    by true t =
+        let z = eqb-true (keeperRefusal (c .settings) (c .p) (c .q) r) 0 t in
+        let k : accepted ((r + c .p) / c .q) ≡ accepted n =
+        sym (ap (λ (x : Kept). x .answer) (call-accepted (c .settings) (c .p) (c .q) r z)) ∙ e in
+        let m : (r + c .p) / c .q ≡ n = cc in
+        subst (λ (x : ℕ). outside (c .settings) x ≡ false) m
+        (count-inside (c .settings) (c .p) (c .q) r (accepted-knows (c .settings) (c .p) (c .q) r z))
+    by false t =
+        let k =
+        sym (ap (λ (x : Kept). accepts (x .answer))
+        (call-refused (c .settings) (c .p) (c .q) r (eqb-false (keeperRefusal (c .settings) (c .p) (c .q) r) 0 t))) ∙ ap accepts e in
+        absurd (true≢false (sym k))
+
+pub counts-add-up : CountsAddUp
+counts-add-up = record { from-any = from-any; new = new; in-window = in-window }

@@ -1,0 +1,40 @@
+-- The settings: a grid K and a window lo to hi (01, "Settings and the frame"). Assumes nothing.
+use mathlib.Core.Path.{_≡_}
+use mathlib.Core.Bool.{Bool, _||_}
+use mathlib.Core.List.{List, [], _∷_}
+use Prim.Native.Nat.{ℕ, _<_, _≤_}
+use lib.Dec.{ltb, eqb}
+use Rattle.gmp_settings.specs.declared.Settings.{Settings}
+use Rattle.gmp_settings.specs.Grid.{payloadBytes}
+use Rattle.gmp_settings.specs.Refusals.{Reason, reason}
+
+-- the most payload columns in a row: those of OPU0
+abbrev pub widestGrid : ℕ
+widestGrid = 3808
+
+-- "OPU0 has K = 3,808, S = 15,232, window 14,405 to 14,410"
+abbrev pub opu0 : Settings
+opu0 = record { k = 3808; lo = 14405; hi = 14410 }
+
+-- number 1, grid: "K is 0 or above 3,808"
+abbrev pub badGrid : Settings → Bool
+badGrid s = eqb (s .k) 0 || ltb widestGrid (s .k)
+
+-- number 2, window: "lo > hi or hi > S"
+abbrev pub badWindow : Settings → Bool
+badWindow s = ltb (s .hi) (s .lo) || ltb (payloadBytes (s .k)) (s .hi)
+
+-- the lines of the table that the settings alone decide
+abbrev pub settingsReasons : Settings → List Reason
+settingsReasons s = reason 1 (badGrid s) ∷ reason 2 (badWindow s) ∷ []
+
+-- a count outside the window lo to hi
+unfoldable pub outside : Settings → ℕ → Bool
+outside s n = ltb n (s .lo) || ltb (s .hi) n
+
+-- settings to which neither line applies
+pub record Fit (s : Settings) : Type 0 where
+  pub grid : 0 < s .k
+  pub widest : s .k ≤ widestGrid
+  pub ordered : s .lo ≤ s .hi
+  pub within : s .hi ≤ payloadBytes (s .k)

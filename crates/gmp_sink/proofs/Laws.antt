@@ -1,0 +1,164 @@
+-- What an accepted call of the sink knows, and the cases of its definitions. Assumes nothing.
+use mathlib.Core.Path.{_≡_, refl, sym, ap, ap₂, _∙_}
+use mathlib.Core.Bool.{Bool, true, false, not, cond}
+use mathlib.Core.List.{List, [], _++_}
+use Prim.Native.Nat.{ℕ, _≤_}
+use native.Mathlib.Omega.{arith}
+use lib.Dec.{eqb, ltb, lit<}
+use lib.ListN.{length, drop}
+use borrow.Author.Tests.{eqb-true, ltb-false, not-false, eq-eqb, ne-eqb}
+use Rattle.gmp_crc8.specs.Check.{passes}
+use Rattle.gmp_settings.specs.declared.Settings.{Settings}
+use Rattle.gmp_settings.specs.declared.Refusal.{Refusal}
+use Rattle.gmp_settings.specs.Grid.{payloadBytes, frameBytes}
+use Rattle.gmp_settings.specs.Refusals.{ascending, accepted, refused, refusalNumber}
+use Rattle.gmp_settings.specs.Settings.{settingsReasons, Fit, outside}
+use Rattle.gmp_settings.proofs.Laws.{none-applies, all-passed, settings-fit, inside-window}
+use Rattle.gmp_standing.specs.declared.Count.{Count}
+use Rattle.gmp_standing.specs.declared.Count.the-variants.{Known, Unknown}
+use Rattle.gmp_standing.specs.declared.Standing.{Standing}
+use Rattle.gmp_standing.specs.Standing.{finding, BADCHECK, standingMeaning}
+use Rattle.gmp_standing.specs.Known.{inWindow}
+use Rattle.gmp_control.specs.declared.Remembered.{Remembered}
+use Rattle.gmp_control.specs.declared.Remembered.the-variants.{Word, Nothing}
+use Rattle.gmp_control.specs.Word.{wordBy}
+use Rattle.gmp_control.specs.Follow.{usable, found}
+use Rattle.gmp_frame.specs.declared.Control.{Control}
+use Rattle.gmp_frame.specs.Frame.{controlOf, clientBytes, clientTaken}
+use Rattle.gmp_frame.proofs.Laws.{length-client, taken-fits}
+use Rattle.gmp_sink.specs.declared.SinkState.{SinkState}
+use Rattle.gmp_sink.specs.declared.SinkAnswer.the-variants.{Done, Refused}
+use Rattle.gmp_sink.specs.declared.SinkResult.{SinkResult}
+use Rattle.gmp_sink.specs.Sink.{sinkReasons, sinkRefusal, handed, standingAfter, stateAfter, answerMeaning, sinkAnswer, sinkState, sinkHanded, sinkOut, SinkPromise, HandsOut}
+
+-- an accepted call
+pub record Accepted (s : Settings) (frameLength outLength : ℕ) : Type 0 where
+  pub fit : Fit s
+  pub frame : frameLength ≡ frameBytes (s .k)
+  pub space : s .hi ≤ outLength
+
+pub accepted-knows : (s : Settings) (f o : ℕ) → sinkRefusal s f o ≡ 0 → Accepted s f o
+unfolding sinkRefusal
+accepted-knows s f o e =
+    let all = all-passed s (sinkReasons s f o) e in
+    let eight = none-applies 8 (not (eqb f (frameBytes (s .k)))) _ (lit< tt) (all .1) in
+    let nine = none-applies 9 (ltb o (s .hi)) _ (lit< tt) (eight .1) in
+    record { fit = settings-fit s (all .0); frame = eqb-true _ _ (not-false _ (eight .0)); space = ltb-false _ _ (nine .0) }
+
+-- a count that counts is at most hi
+pub known-le : (s : Settings) (c : Count) (n : ℕ) → inWindow s c ≡ Known n → n ≤ s .hi
+unfolding inWindow
+known-le s (Known m) n e = by (outside s m) refl e
+  where
+    by : (b : Bool) → outside s m ≡ b → cond b Unknown (Known m) ≡ Known n → n ≤ s .hi
+    by true o e′ = let z : _≡_ {A = ℕ} 0 1 = cc in absurd (omega arith)
+    by false o e′ = let d : m ≡ n = cc in omega (arith, inside-window s m o)
+known-le s Unknown n e = let z : _≡_ {A = ℕ} 0 1 = cc in absurd (omega arith)
+
+module _ (s : Settings) (z : SinkState) (frame : List ℕ) where
+  -- the bytes handed out, by the count that was known
+  pub handed-known : (n : ℕ) → inWindow s (z .count) ≡ Known n → handed s z frame ≡ clientBytes (s .k) n frame
+  unfolding handed
+  handed-known n e = rw e
+
+  pub handed-none : inWindow s (z .count) ≡ Unknown → handed s z frame ≡ []
+  unfolding handed
+  handed-none e = rw e
+
+  module _ (out : List ℕ) where
+    -- an accepted call
+    pub answer-accepted : sinkRefusal s (length frame) (length out) ≡ 0 → sinkAnswer s z frame out ≡ accepted (standingAfter s z (controlOf (s .k) frame))
+    unfolding sinkAnswer
+    answer-accepted e = simp (eq-eqb _ _ e)
+
+    pub state-accepted : sinkRefusal s (length frame) (length out) ≡ 0 → sinkState s z frame out ≡ stateAfter s z (controlOf (s .k) frame)
+    unfolding sinkState
+    state-accepted e = simp (eq-eqb _ _ e)
+
+    pub handed-accepted : sinkRefusal s (length frame) (length out) ≡ 0 → sinkHanded s z frame out ≡ handed s z frame
+    unfolding sinkHanded
+    handed-accepted e = simp (eq-eqb _ _ e)
+
+    pub out-accepted : sinkRefusal s (length frame) (length out) ≡ 0 → sinkOut s z frame out ≡ handed s z frame ++ drop (length (handed s z frame)) out
+    unfolding sinkOut
+    out-accepted e = ap (λ (l : List ℕ). l ++ drop (length l) out) (handed-accepted e)
+
+    -- a refused one
+    pub answer-refused : (sinkRefusal s (length frame) (length out) ≡ 0 → ⊥) → sinkAnswer s z frame out ≡ refused (sinkRefusal s (length frame) (length out))
+    unfolding sinkAnswer
+    answer-refused h = simp (ne-eqb _ _ h)
+
+    pub state-refused : (sinkRefusal s (length frame) (length out) ≡ 0 → ⊥) → sinkState s z frame out ≡ z
+    unfolding sinkState
+    state-refused h = simp (ne-eqb _ _ h)
+
+    pub handed-refused : (sinkRefusal s (length frame) (length out) ≡ 0 → ⊥) → sinkHanded s z frame out ≡ []
+    unfolding sinkHanded
+    handed-refused h = simp (ne-eqb _ _ h)
+
+    pub out-refused : (sinkRefusal s (length frame) (length out) ≡ 0 → ⊥) → sinkOut s z frame out ≡ out
+    unfolding sinkOut
+    out-refused h = ap (λ (l : List ℕ). l ++ drop (length l) out) (handed-refused h)
+
+module _ (s : Settings) (z : SinkState) (c : Control) where
+  -- control bytes that pass the check lead where their word leads, and those that fail to nothing
+  pub standing-passed : passes (c .jc1) (c .jc2) (c .jc3) ≡ true → standingAfter s z c ≡ found s (z .count) (z .word) (wordBy (c .jc1) (c .jc2))
+  unfolding standingAfter
+  standing-passed e = rw e
+
+  pub standing-failed : passes (c .jc1) (c .jc2) (c .jc3) ≡ false → standingAfter s z c ≡ finding BADCHECK Unknown
+  unfolding standingAfter
+  standing-failed e = rw e
+
+  pub word-passed : passes (c .jc1) (c .jc2) (c .jc3) ≡ true → stateAfter s z c .word ≡ usable (Word (wordBy (c .jc1) (c .jc2)))
+  unfolding stateAfter
+  word-passed e = rw e
+
+  pub word-failed : passes (c .jc1) (c .jc2) (c .jc3) ≡ false → stateAfter s z c .word ≡ Nothing
+  unfolding stateAfter
+  word-failed e = rw e
+
+  -- the new count is what was found
+  pub count-after : stateAfter s z c .count ≡ standingAfter s z c .count
+  unfolding stateAfter
+  count-after = refl
+
+-- what the code of `hand_out` comes to, where a count n is known
+pub hands-out : (s : Settings) (z : SinkState) (frame out : List ℕ) (n : ℕ) (after : List ℕ) → sinkRefusal s (length frame) (length out) ≡ 0
+    → inWindow s (z .count) ≡ Known n → after ≡ clientTaken (s .k) n frame out → HandsOut (handed s z frame) out n after
+hands-out s z frame out n after zero known e =
+    let a = accepted-knows s (length frame) (length out) zero in
+    let le = known-le s (z .count) n known in
+    let fits : n ≤ payloadBytes (s .k) = omega (arith, a .fit .within) in
+    let room : n ≤ length out = omega (arith, a .space) in
+    let same = length-client (s .k) n frame fits (a .frame) in
+    let h = handed-known s z frame n known in
+    record {
+      length-is = sym (ap length h ∙ same);
+      buffer = e ∙ taken-fits (s .k) n frame out (a .frame) fits room ∙ sym (rw (h, same));
+    }
+
+-- a state by its two parts
+pub state-of-parts : (count : Count) (word : Remembered) (x : SinkState) → count ≡ x .count → word ≡ x .word → record { count = count; word = word } ≡ x
+state-of-parts count word x e f = ap₂ (λ (c : Count) (w : Remembered). record { count = c; word = w }) e f
+
+-- the lines of the sink's table stand in ascending order
+pub sink-ascending : (s : Settings) (f o : ℕ) → ascending 0 (settingsReasons s ++ sinkReasons s f o) ≡ true
+sink-ascending s f o = refl
+
+-- A call that no number turns back is not refused, and its standing is what the control bytes lead to.
+module _ {s : Settings} {z : SinkState} {frame out : List ℕ} (none : sinkRefusal s (length frame) (length out) ≡ 0) {r : SinkResult} {after : List ℕ}
+    (p : SinkPromise s z frame out r after) where
+  answered : answerMeaning (r .answer) ≡ accepted (standingAfter s z (controlOf (s .k) frame))
+  answered = p .answer ∙ answer-accepted s z frame out none
+
+  pub never-refused : (x : Refusal) → r .answer ≡ Refused x → ⊥
+  never-refused x e =
+      let o : refused (refusalNumber x) ≡ accepted (standingAfter s z (controlOf (s .k) frame)) = sym (ap answerMeaning e) ∙ answered in
+      let zero : _≡_ {A = ℕ} 0 1 = cc in
+      omega arith
+
+  pub done-says : (x : Standing) → r .answer ≡ Done x → standingMeaning x ≡ standingAfter s z (controlOf (s .k) frame)
+  done-says x e =
+      let o : accepted (standingMeaning x) ≡ accepted (standingAfter s z (controlOf (s .k) frame)) = sym (ap answerMeaning e) ∙ answered in
+      cc

@@ -1,0 +1,99 @@
+-- The sink (01, "Sink"). Three things are standingMeaning apart: what is handed out, how the count follows, and, in the crate card, what the tally adds.
+-- Assumes nothing.
+use mathlib.Core.Path.{_≡_}
+use mathlib.Core.Bool.{Bool, not, cond}
+use mathlib.Core.List.{List, [], _∷_, _++_}
+use Prim.Native.Nat.{ℕ}
+use lib.Dec.{eqb, ltb}
+use lib.ListN.{length, drop}
+use Rattle.gmp_crc8.specs.Check.{passes}
+use Rattle.gmp_settings.specs.declared.Settings.{Settings}
+use Rattle.gmp_settings.specs.Grid.{frameBytes}
+use Rattle.gmp_settings.specs.Refusals.{refusalNumber, Reason, reason, lowest, Answer, accepted, refused, answerBy}
+use Rattle.gmp_settings.specs.Settings.{settingsReasons}
+use Rattle.gmp_standing.specs.declared.Count.{Count}
+use Rattle.gmp_standing.specs.declared.Count.the-variants.{Known, Unknown}
+use Rattle.gmp_standing.specs.Standing.{Finding, finding, BADCHECK, standingMeaning}
+use Rattle.gmp_standing.specs.Known.{inWindow}
+use Rattle.gmp_control.specs.declared.Remembered.the-variants.{Word, Nothing}
+use Rattle.gmp_control.specs.declared.Followed.{Followed}
+use Rattle.gmp_control.specs.Word.{wordBy}
+use Rattle.gmp_control.specs.Follow.{usable, found}
+use Rattle.gmp_frame.specs.declared.Control.{Control}
+use Rattle.gmp_frame.specs.Frame.{clientBytes, controlOf}
+use Rattle.gmp_sink.specs.declared.SinkState.{SinkState}
+use Rattle.gmp_sink.specs.declared.SinkAnswer.{SinkAnswer}
+use Rattle.gmp_sink.specs.declared.SinkAnswer.the-variants.{Done, Refused}
+use Rattle.gmp_sink.specs.declared.SinkResult.{SinkResult}
+
+-- "a known count or none, and a remembered word or none; a new sink has neither"
+abbrev pub newSink : SinkState
+newSink = record { count = Unknown; word = Nothing }
+
+-- A call's own lines: 8, "frame buffer not exactly 4K + 8 bytes"; 9, "output buffer shorter than hi".
+abbrev pub sinkReasons : Settings → ℕ → ℕ → List Reason
+sinkReasons s frameLength outLength = reason 8 (not (eqb frameLength (frameBytes (s .k)))) ∷ reason 9 (ltb outLength (s .hi)) ∷ []
+
+-- why a call is turned back, or 0
+unfoldable pub sinkRefusal : Settings → ℕ → ℕ → ℕ
+sinkRefusal s frameLength outLength = lowest (settingsReasons s ++ sinkReasons s frameLength outLength)
+
+-- "if a count is known, the client bytes at its places go to the start of the output buffer, else none"
+abbrev pub atPlaces : ℕ → Count → List ℕ → List ℕ
+atPlaces k (Known n) frame = clientBytes k n frame
+atPlaces k Unknown frame = []
+
+-- the bytes handed out: those at the places of the count known before the frame
+unfoldable pub handed : Settings → SinkState → List ℕ → List ℕ
+handed s z frame = atPlaces (s .k) (inWindow s (z .count)) frame
+
+-- rule 1, "The check fails: count none, word none. BADCHECK", or what the word leads to
+unfoldable pub standingAfter : Settings → SinkState → Control → Finding
+standingAfter s z c =
+    cond (passes (c .jc1) (c .jc2) (c .jc3)) (found s (z .count) (z .word) (wordBy (c .jc1) (c .jc2))) (finding BADCHECK Unknown)
+
+-- the state after these control bytes: what was found, and the word where it passed and II ≠ DI
+unfoldable pub stateAfter : Settings → SinkState → Control → SinkState
+stateAfter s z c =
+    record {
+      count = standingAfter s z c .count;
+      word = cond (passes (c .jc1) (c .jc2) (c .jc3)) (usable (Word (wordBy (c .jc1) (c .jc2)))) Nothing;
+    }
+
+-- the paper's number and values for each case of the answer
+abbrev pub answerMeaning : SinkAnswer → Answer Finding
+answerMeaning (Done x) = accepted (standingMeaning x)
+answerMeaning (Refused r) = refused (refusalNumber r)
+
+-- the answer of a call
+unfoldable pub sinkAnswer : Settings → SinkState → List ℕ → List ℕ → Answer Finding
+sinkAnswer s z frame out = answerBy (sinkRefusal s (length frame) (length out)) (standingAfter s z (controlOf (s .k) frame))
+
+-- the state after a call: a refused call returns the state it was given
+unfoldable pub sinkState : Settings → SinkState → List ℕ → List ℕ → SinkState
+sinkState s z frame out = cond (eqb (sinkRefusal s (length frame) (length out)) 0) (stateAfter s z (controlOf (s .k) frame)) z
+
+-- the bytes that a call hands out, and the output buffer after it: "bytes after them keep their content"
+unfoldable pub sinkHanded : Settings → SinkState → List ℕ → List ℕ → List ℕ
+sinkHanded s z frame out = cond (eqb (sinkRefusal s (length frame) (length out)) 0) (handed s z frame) []
+
+unfoldable pub sinkOut : Settings → SinkState → List ℕ → List ℕ → List ℕ
+sinkOut s z frame out = sinkHanded s z frame out ++ drop (length (sinkHanded s z frame out)) out
+
+-- What a call promises: its answer, the new state, the number of bytes handed out, and every byte of the output buffer.
+pub record SinkPromise (s : Settings) (z : SinkState) (frame out : List ℕ) (r : SinkResult) (after : List ℕ) : Type 0 where
+  pub answer : answerMeaning (r .answer) ≡ sinkAnswer s z frame out
+  pub state : r .state ≡ sinkState s z frame out
+  pub handed-bytes : r .handed ≡ length (sinkHanded s z frame out)
+  pub out-buffer : after ≡ sinkOut s z frame out
+
+-- The parts of an accepted call: bytes handed out at the start of a buffer, with their number;
+pub record HandsOut (bytes out : List ℕ) (r : ℕ) (after : List ℕ) : Type 0 where
+  pub length-is : r ≡ length bytes
+  pub buffer : after ≡ bytes ++ drop (length bytes) out
+
+-- and what the control bytes lead to.
+pub record ReadsControl (s : Settings) (z : SinkState) (c : Control) (r : Followed) : Type 0 where
+  pub standing : standingMeaning (r .standing) ≡ standingAfter s z c
+  pub count : r .count ≡ stateAfter s z c .count
+  pub word : r .word ≡ stateAfter s z c .word

@@ -1,0 +1,36 @@
+// The sink: its state, what it answers, and a new sink. The call that takes a frame is in the crate demapping.
+use gmp_control::Remembered;
+use gmp_settings::Refusal;
+use gmp_standing::Count;
+use gmp_standing::Standing;
+ghost use mathlib.Core.Path.{_≡_};
+ghost use Rattle.gmp_sink.specs.Sink.{newSink};
+
+// A known count or none, and a remembered word or none.
+pub struct SinkState {
+    pub count: Count,
+    pub word: Remembered,
+}
+
+// The standing after the frame, or why the call is turned back.
+pub enum SinkAnswer {
+    Done(Standing),
+    Refused(Refusal),
+}
+
+// The answer, the state to go on from, and the number of bytes handed out.
+pub struct SinkResult {
+    pub answer: SinkAnswer,
+    pub state: SinkState,
+    pub handed: u32,
+}
+
+// A sink that knows nothing.
+pub fn new_sink() -> SinkState
+    ensures { λ r. ⌜ r ≡ newSink ⌝ }
+{
+    SinkState {
+        count: Count::Unknown,
+        word: Remembered::Nothing,
+    }
+}

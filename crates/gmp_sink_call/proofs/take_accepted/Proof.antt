@@ -1,0 +1,51 @@
+-- `gmp_sink_call::take_accepted` meets its contract: the parts, put together. Assumes nothing.
+use mathlib.Core.Path.{_≡_, _∙_, sym, ap}
+use mathlib.Core.List.{List, _++_}
+use Prim.Native.Nat.{ℕ}
+use lib.ListN.{length, drop}
+use borrow.Author.Needs.{needs}
+use Rattle.gmp_settings.specs.Refusals.{accepted}
+use Rattle.gmp_standing.specs.declared.Count.{Count}
+use Rattle.gmp_standing.specs.Standing.{Finding}
+use Rattle.gmp_control.specs.declared.Remembered.{Remembered}
+use Rattle.gmp_frame.specs.declared.Control.{Control}
+use Rattle.gmp_frame.specs.Frame.{controlOf}
+use Rattle.gmp_sink.specs.Sink.{stateAfter, standingAfter}
+use Rattle.gmp_sink.proofs.Laws.{answer-accepted, state-accepted, handed-accepted, out-accepted, state-of-parts}
+use Rattle.gmp_sink_call.proofs.take_accepted.Statement.{statement}
+use Rattle.gmp_sink_call.proofs.take_accepted.Tie as tie
+
+control-of-requires : tie.Need-control-of-requires
+control-of-requires c κs = search needs
+
+read-control-requires : tie.Need-read-control-requires
+read-control-requires c κs = search needs
+
+hand-out-requires : tie.Need-hand-out-requires
+hand-out-requires c κs = search needs
+
+same-length : tie.Need-same-length
+same-length c = search needs
+
+returns : tie.Need-returns
+returns c =
+    let g = c .before .before .before .before .before .before .before .before .args in
+    let s = g .settings in
+    let z = g .state in
+    let frame = g .frame .now in
+    let out = g .out .now in
+    let zero = c .before .before .before .before .before .before .before .before .pre in
+    let control = c .before .before .before .before .before .control-of .ensures in
+    let reads = c .before .before .before .before .read-control .ensures in
+    let hands = c .before .before .hand-out .ensures in
+    record {
+      answer = ap accepted (reads .standing ∙ ap (standingAfter s z) control) ∙ sym (answer-accepted s z frame out zero);
+      state = state-of-parts _ _ _ (reads .count) (reads .word) ∙ ap (stateAfter s z) control ∙ sym (state-accepted s z frame out zero);
+      handed-bytes = hands .length-is ∙ sym (ap length (handed-accepted s z frame out zero));
+      out-buffer = hands .buffer ∙ sym (out-accepted s z frame out zero);
+    }
+
+pub take-accepted-spec : {M : Type 1} → statement M
+take-accepted-spec =
+    tie.close
+    (tie.spec control-of-requires read-control-requires hand-out-requires same-length returns)

@@ -1,0 +1,51 @@
+-- `gmp_sink_call::take_frame` meets its contract. Assumes nothing.
+use mathlib.Core.Path.{_≡_, _∙_, sym, ap}
+use lib.ListN.{length}
+use borrow.Author.Needs.{needs}
+use Rattle.gmp_settings.specs.Refusals.{verdictNumber, refused}
+use Rattle.gmp_settings.proofs.Laws.{refused-has-number}
+use Rattle.gmp_sink.proofs.Laws.{answer-refused, state-refused, handed-refused, out-refused}
+use Rattle.gmp_sink_call.proofs.take_frame.Statement.{statement}
+use Rattle.gmp_sink_call.proofs.take_frame.Tie as tie
+
+judge-call-requires : tie.Need-judge-call-requires
+judge-call-requires c κs = search needs
+
+enum-known-verdict : tie.Need-enum-known-verdict
+enum-known-verdict c = search needs
+
+enum-told : tie.Need-enum-told
+enum-told c = search needs
+
+take-accepted-requires : tie.Need-take-accepted-requires
+take-accepted-requires c κs = sym (c .before .before .before .judge-call .ensures) ∙ ap verdictNumber (c .before .enum-told .given .1)
+
+same-length : tie.Need-same-length
+same-length c = search needs
+
+returns : tie.Need-returns
+returns c = search needs
+
+returns-2 : tie.Need-returns-2
+returns-2 c =
+    let g = c .before .before .before .before .before .before .args in
+    let not-zero = refused-has-number _ _ _ (c .before .before .before .judge-call .ensures) (c .before .verdict .given .1) in
+    let e = sym (c .before .before .before .judge-call .ensures) ∙ ap verdictNumber (c .before .verdict .given .1) in
+    record {
+      answer = ap refused (sym e) ∙ sym (answer-refused (g .settings) (g .state) (g .frame .now) (g .out .now) not-zero);
+      state = sym (state-refused (g .settings) (g .state) (g .frame .now) (g .out .now) not-zero);
+      handed-bytes = sym (ap length (handed-refused (g .settings) (g .state) (g .frame .now) (g .out .now) not-zero));
+      out-buffer = sym (out-refused (g .settings) (g .state) (g .frame .now) (g .out .now) not-zero);
+    }
+
+pub take-frame-spec : {M : Type 1} → statement M
+take-frame-spec =
+    tie.close
+    (tie.spec
+    judge-call-requires
+    enum-known-verdict
+    enum-told
+    take-accepted-requires
+    same-length
+    returns
+    returns-2)

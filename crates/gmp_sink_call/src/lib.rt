@@ -1,0 +1,100 @@
+// The sink's call: it hands out the client bytes of a frame at the places of the count that it knew before, and follows the control word.
+use gmp_control::Followed;
+use gmp_control::Remembered;
+use gmp_frame::Control;
+use gmp_settings::Refusal;
+use gmp_settings::Settings;
+use gmp_settings::Verdict;
+use gmp_sink::SinkAnswer;
+use gmp_sink::SinkResult;
+use gmp_sink::SinkState;
+use gmp_standing::Count;
+use gmp_standing::Standing;
+ghost use mathlib.Core.Path.{_≡_};
+ghost use lib.ListN.{length};
+ghost use Rattle.gmp_settings.specs.Refusals.{verdictNumber};
+ghost use Rattle.gmp_sink.specs.Sink.{sinkRefusal, handed, HandsOut, ReadsControl, SinkPromise};
+
+// Takes a frame. A refused call returns the state that it was given and leaves the output buffer as it was.
+pub fn take_frame(settings: Settings, state: SinkState, frame: &[u8], out: &mut [u8]) -> SinkResult
+    ensures { λ r. ⌜ SinkPromise settings state (now (frame .entry)) (now (out .entry)) r (now (out .exit)) ⌝ }
+{
+    let verdict = judge_call(settings, frame.len(), out.len());
+    let Verdict::Refused(refusal) = verdict else {
+        return take_accepted(settings, state, frame, out);
+    };
+    SinkResult {
+        answer: SinkAnswer::Refused(refusal),
+        state: state,
+        handed: 0,
+    }
+}
+
+// The same where nothing is refused. The count that was known before the frame says which bytes are handed out.
+fn take_accepted(settings: Settings, state: SinkState, frame: &[u8], out: &mut [u8]) -> SinkResult
+    requires { ⌜ sinkRefusal settings (length (now frame)) (length (now out)) ≡ 0 ⌝ }
+    ensures { λ r. ⌜ SinkPromise settings state (now (frame .entry)) (now (out .entry)) r (now (out .exit)) ⌝ }
+{
+    let control = gmp_frame::control_of(frame, settings.k);
+    let followed = read_control(settings, state, control);
+    let standing = followed.standing;
+    let count = followed.count;
+    let word = followed.word;
+    let after = SinkState {
+        count: count,
+        word: word,
+    };
+    let handed = hand_out(settings, state, frame, out);
+    SinkResult {
+        answer: SinkAnswer::Done(standing),
+        state: after,
+        handed: handed,
+    }
+}
+
+// Copies the client bytes at the places of a known count to the start of the output buffer, and gives their number.
+fn hand_out(settings: Settings, state: SinkState, frame: &[u8], out: &mut [u8]) -> u32
+    requires { ⌜ sinkRefusal settings (length (now frame)) (length (now out)) ≡ 0 ⌝ }
+    ensures { λ r. ⌜ HandsOut (handed settings state (now (frame .entry))) (now (out .entry)) r (now (out .exit)) ⌝ }
+{
+    let count = state.count;
+    let known = gmp_standing::known_count(settings, count);
+    let Count::Known(n) = known else {
+        return 0;
+    };
+    gmp_frame_read::take_client(frame, settings.k, n, out);
+    n
+}
+
+// Rules 1 to 3: what the control bytes lead to.
+fn read_control(settings: Settings, state: SinkState, control: Control) -> Followed
+    ensures { λ r. ⌜ ReadsControl settings state control r ⌝ }
+{
+    let count = state.count;
+    let word = state.word;
+    if gmp_crc8::passes(control.jc1, control.jc2, control.jc3) {
+        return gmp_control_read::follow(settings, count, word, control.jc1, control.jc2);
+    }
+    Followed {
+        standing: Standing::BadCheck,
+        count: Count::Unknown,
+        word: Remembered::Nothing,
+    }
+}
+
+// Numbers 1, 2, 8 and 9, for a frame and an output buffer of these lengths.
+fn judge_call(settings: Settings, frame_length: usize, space: usize) -> Verdict
+    ensures { λ v. ⌜ verdictNumber v ≡ sinkRefusal settings «frame_length» space ⌝ }
+{
+    let verdict = gmp_settings::judge(settings);
+    let Verdict::Accepted = verdict else {
+        return verdict;
+    };
+    if frame_length != gmp_settings::frame_length(settings) {
+        return Verdict::Refused(Refusal::Frame);
+    }
+    if space < settings.hi as usize {
+        return Verdict::Refused(Refusal::Space);
+    }
+    Verdict::Accepted
+}

@@ -1,0 +1,56 @@
+// The source: its state, what it answers, and a new source. The call that writes a frame is in the crate mapping.
+use gmp_settings::Refusal;
+use gmp_settings::Settings;
+use gmp_settings::Verdict;
+ghost use mathlib.Core.Path.{_≡_};
+ghost use Rattle.gmp_settings.specs.Refusals.{verdictNumber};
+ghost use Rattle.gmp_source.specs.Source.{startRefusal, newSource, startMeaning};
+
+// The present count, the multiframe number and the payload type.
+#[repr(C)]
+pub struct SourceState {
+    pub count: u32,
+    pub multiframe: u32,
+    pub payload_type: u8,
+}
+
+// A new source, or why there is none.
+pub enum SourceStart {
+    New(SourceState),
+    Refused(Refusal),
+}
+
+// Whether the call was accepted, and the state to go on from.
+pub struct SourceResult {
+    pub answer: Verdict,
+    pub state: SourceState,
+}
+
+// A new source with this first count and this payload type.
+pub fn new_source(settings: Settings, first: u32, payload_type: u8) -> SourceStart
+    ensures { λ r. ⌜ startMeaning r ≡ newSource settings first «payload_type» ⌝ }
+{
+    let verdict = judge_start(settings, first);
+    let Verdict::Refused(refusal) = verdict else {
+        return SourceStart::New(SourceState {
+            count: first,
+            multiframe: 0,
+            payload_type: payload_type,
+        });
+    };
+    SourceStart::Refused(refusal)
+}
+
+// Numbers 1, 2 and 5, for the first count of a new source or the present one of a call.
+pub fn judge_start(settings: Settings, count: u32) -> Verdict
+    ensures { λ v. ⌜ verdictNumber v ≡ startRefusal settings count ⌝ }
+{
+    let verdict = gmp_settings::judge(settings);
+    let Verdict::Accepted = verdict else {
+        return verdict;
+    };
+    if gmp_settings::is_outside(settings, count) {
+        return Verdict::Refused(Refusal::State);
+    }
+    Verdict::Accepted
+}

@@ -1,0 +1,53 @@
+-- What other crates cite: the stuffing places, and what is left in a row's buffer where all fits. Assumes nothing.
+use mathlib.Core.Path.{_≡_, sym, _∙_}
+use mathlib.Core.Bool.{true, true≢false, _&&_}
+use mathlib.Core.List.{List}
+use mathlib.Core.Logic.{_↔_, ⊎-elim}
+use Prim.Native.Nat.{ℕ, _+_, _*_, _/_, _≤_, _<_}
+use native.Mathlib.Omega.{arith}
+use lib.ListN.{length}
+use lib.Dec.{ltb, leb}
+use borrow.Author.Tests.{ltb-true, leb-true, lt-ltb, le-leb}
+use Rattle.math.specs.Choice.{both-true}
+use Rattle.gmp_settings.specs.Grid.{payloadBytes}
+use Rattle.gmp_stuffing.specs.Places.{carries, places}
+use Rattle.gmp_stuffing.specs.Row.{rowFits, rowBytes, rowClient, rowPlaced, rowTaken}
+use Rattle.gmp_stuffing.proofs.Steps.{step, count-all, places-whole}
+
+-- "among the first n exactly the whole part of n × C / S"
+pub places-are : (C S : ℕ) → C ≤ S → (n : ℕ) → places C S n ≡ n * C / S
+places-are = places-whole
+
+-- "exactly C such places"
+pub places-all : (C S : ℕ) → C ≤ S → places C S S ≡ C
+places-all C S le = places-are C S le S ∙ count-all C S le
+
+-- a place carries a client byte exactly where the whole part steps
+pub carries-steps : (C S : ℕ) → C ≤ S → (n : ℕ) → (carries C S (n + 1) ≡ true) ↔ ((n + 1) * C / S ≡ n * C / S + 1)
+carries-steps C S le n =
+    ⊎-elim
+    (λ s. (λ _. s .count, λ _. s .place))
+    (λ s. (λ t. absurd (true≢false (sym t ∙ s .place)), λ e. absurd (omega (arith, s .count))))
+    (step C S le n)
+
+-- what it is for a row to fit, in numbers
+pub fits-where : (k r C : ℕ) → k < 4294967296 → r < 4 → C ≤ payloadBytes k → rowFits k r C ≡ true
+unfolding rowFits
+fits-where k r C lt row le = rw (lt-ltb k 4294967296 lt, lt-ltb r 4 row, le-leb C (4 * k) le)
+
+pub fits-gives : (k r C : ℕ) → rowFits k r C ≡ true → (k < 4294967296) × (r < 4) × (C ≤ payloadBytes k)
+unfolding rowFits
+fits-gives k r C e =
+    let (lt, rest) = both-true (ltb k 4294967296) (ltb r 4 && leb C (4 * k)) e in
+    let (row, le) = both-true (ltb r 4) (leb C (4 * k)) rest in
+    (ltb-true k 4294967296 lt, ltb-true r 4 row, leb-true C (4 * k) le)
+
+-- the buffer of one of four rows holds its payload bytes, where the client bytes fit
+pub placed-fits : (k r : ℕ) (client part : List ℕ) → length part ≡ k → rowFits k r (length client) ≡ true → rowPlaced r client part ≡ rowBytes k r client
+unfolding rowPlaced
+placed-fits k r client part l e = rw (l, e)
+
+-- a buffer with room for them holds the client bytes of one of four rows in their place, where the count fits
+pub taken-fits : (k r C : ℕ) (part out : List ℕ) → length part ≡ k → rowFits k r C ≡ true → C ≤ length out → rowTaken r C part out ≡ rowClient k r C part out
+unfolding rowTaken
+taken-fits k r C part out l e room = rw (l, le-leb C (length out) room, e)
