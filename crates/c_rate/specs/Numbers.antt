@@ -1,6 +1,6 @@
 -- The rate keeper's replies as the plain numbers that C and Rust see. Assumes nothing.
 use Prim.Native.Nat.{ℕ}
-use Rattle.gmp_settings.specs.Refusals.{Answer, accepted, refused}
+use Rattle.refusals.specs.Table.{Answer, accepted, refused}
 use Rattle.gmp_rate.specs.Rate.{Kept}
 use Rattle.c_rate.specs.declared.KeeperReply.{KeeperReply}
 

@@ -1,8 +1,8 @@
 // The rate keeper for C and Rust: numbers in, numbers out. All meaning is in the crates below; here values are only converted.
 use gmp_rate::KeeperAnswer;
 use gmp_rate::KeeperResult;
+use gmp_refusal::Verdict;
 use gmp_settings::Settings;
-use gmp_settings::Verdict;
 ghost use mathlib.Core.Path.{_≡_};
 ghost use Rattle.gmp_rate.specs.Rate.{keeperCall, firstRemainder, resultMeaning};
 ghost use Rattle.c_rate.specs.Numbers.{keeperReply};
@@ -46,7 +46,7 @@ fn keeper_reply(result: KeeperResult) -> KeeperReply
             remainder: kept,
         },
         KeeperAnswer::Refused(refusal) => KeeperReply {
-            refusal: gmp_settings::refusal_number(Verdict::Refused(refusal)),
+            refusal: gmp_refusal::refusal_number(Verdict::Refused(refusal)),
             count: 0,
             remainder: kept,
         },

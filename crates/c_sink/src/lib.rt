@@ -1,8 +1,8 @@
 // The sink for C and Rust: numbers and buffers in, numbers out. All meaning is in the crates below; here values are only converted.
 use card_tally::Tally;
 use gmp_control::Remembered;
+use gmp_refusal::Verdict;
 use gmp_settings::Settings;
-use gmp_settings::Verdict;
 use gmp_sink::SinkAnswer;
 use gmp_sink::SinkResult;
 use gmp_sink::SinkState;
@@ -92,7 +92,7 @@ fn sink_reply(given: SinkNumbers, result: SinkResult) -> SinkReply
             }
         }
         SinkAnswer::Refused(refusal) => SinkReply {
-            refusal: gmp_settings::refusal_number(Verdict::Refused(refusal)),
+            refusal: gmp_refusal::refusal_number(Verdict::Refused(refusal)),
             standing: 0,
             found: 0,
             count: 0,

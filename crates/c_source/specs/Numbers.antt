@@ -3,7 +3,7 @@ use mathlib.Core.List.{List}
 use Prim.Native.Nat.{ℕ}
 use lib.ListN.{length}
 use Rattle.gmp_settings.specs.declared.Settings.{Settings}
-use Rattle.gmp_settings.specs.Refusals.{Answer, accepted, refused}
+use Rattle.refusals.specs.Table.{Answer, accepted, refused}
 use Rattle.gmp_source.specs.declared.SourceState.{SourceState}
 use Rattle.gmp_source.specs.Source.{sourceRefusal, sourceState}
 use Rattle.c_source.specs.declared.SourceReply.{SourceReply}

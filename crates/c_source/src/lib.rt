@@ -1,6 +1,6 @@
 // The source for C and Rust: numbers and buffers in, numbers out. All meaning is in the crates below; here values are only converted.
+use gmp_refusal::Verdict;
 use gmp_settings::Settings;
-use gmp_settings::Verdict;
 use gmp_source::SourceStart;
 use gmp_source::SourceState;
 ghost use mathlib.Core.Path.{_≡_};
@@ -36,7 +36,7 @@ pub extern "C" fn odu0_source_call(
     let verdict = result.answer;
     let after = result.state;
     SourceReply {
-        refusal: gmp_settings::refusal_number(verdict),
+        refusal: gmp_refusal::refusal_number(verdict),
         state: after,
     }
 }
@@ -50,7 +50,7 @@ fn start_reply(start: SourceStart) -> SourceReply
             state: state,
         },
         SourceStart::Refused(refusal) => SourceReply {
-            refusal: gmp_settings::refusal_number(Verdict::Refused(refusal)),
+            refusal: gmp_refusal::refusal_number(Verdict::Refused(refusal)),
             state: SourceState {
                 count: 0,
                 multiframe: 0,

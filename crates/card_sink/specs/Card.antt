@@ -6,7 +6,7 @@ use Prim.Native.Nat.{ℕ}
 use lib.ListN.{length}
 use Rattle.math.specs.Choice.{sameList}
 use Rattle.gmp_settings.specs.declared.Settings.{Settings}
-use Rattle.gmp_settings.specs.Refusals.{Answer, accepted, refused}
+use Rattle.refusals.specs.Table.{Answer, accepted, refused}
 use Rattle.gmp_standing.specs.Standing.{Finding, BADCHECK}
 use Rattle.card_tally.specs.declared.Tally.{Tally}
 use Rattle.card_tally.specs.Tally.{added}

@@ -11,7 +11,7 @@ use lib.ListN.{length, drop, getD}
 use Rattle.gmp_crc8.specs.Check.{passes, budget}
 use Rattle.gmp_crc8.proofs.Laws.{reads-as-itself}
 use Rattle.gmp_settings.specs.declared.Settings.{Settings}
-use Rattle.gmp_settings.specs.Refusals.{accepted}
+use Rattle.refusals.specs.Table.{accepted}
 use Rattle.gmp_settings.specs.Settings.{Fit, outside}
 use Rattle.gmp_standing.specs.declared.Count.{Count}
 use Rattle.gmp_standing.specs.declared.Count.the-variants.{Known, Unknown}

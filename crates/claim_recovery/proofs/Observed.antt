@@ -5,7 +5,8 @@ use mathlib.Core.List.{List, [], _∷_}
 use Prim.Native.Nat.{ℕ}
 use lib.Dec.{eqb}
 use lib.ListN.{length}
-use Rattle.gmp_settings.specs.Refusals.{verdictNumber, accepted, refused, accepts}
+use Rattle.refusals.specs.Table.{accepted, refused, accepts}
+use Rattle.gmp_refusal.specs.Refusal.{verdictNumber}
 use Rattle.gmp_standing.specs.Standing.{Finding}
 use Rattle.gmp_frame.specs.Frame.{controlOf}
 use Rattle.gmp_source.specs.declared.SourceState.{SourceState}

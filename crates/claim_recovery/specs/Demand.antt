@@ -7,7 +7,7 @@ use Prim.Native.Nat.{ℕ, _+_, _-_, _≤_}
 use lib.ListN.{length, drop}
 use Rattle.gmp_crc8.specs.Check.{wrongBits, budget}
 use Rattle.gmp_settings.specs.declared.Settings.{Settings}
-use Rattle.gmp_settings.specs.Refusals.{accepted}
+use Rattle.refusals.specs.Table.{accepted}
 use Rattle.gmp_standing.specs.declared.Count.the-variants.{Known, Unknown}
 use Rattle.gmp_standing.specs.Standing.{finding, READ, TRACKED}
 use Rattle.gmp_control.specs.Word.{equalIndicators, wordBy}

@@ -7,7 +7,8 @@ use Prim.Native.Nat.{ℕ}
 use lib.Dec.{eqb}
 use contract.Lifetimes.{Lfts}
 use denote.Ref.{RefT, at-last}
-use Rattle.gmp_settings.specs.Refusals.{verdictNumber, accepts}
+use Rattle.refusals.specs.Table.{accepts}
+use Rattle.gmp_refusal.specs.Refusal.{verdictNumber}
 use Rattle.card_tally.specs.declared.Tally.{Tally}
 use Rattle.gmp_source.specs.declared.SourceState.{SourceState}
 use Rattle.gmp_source.specs.declared.SourceResult.{SourceResult}

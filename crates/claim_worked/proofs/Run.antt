@@ -11,7 +11,7 @@ use Rattle.math.specs.Bits.{bits, differing}
 use Rattle.gmp_crc8.specs.Division.{reduce, divide}
 use Rattle.gmp_crc8.specs.Check.{remainder, passes, word, budget}
 use Rattle.gmp_settings.specs.declared.Settings.{Settings}
-use Rattle.gmp_settings.specs.Refusals.{Answer, accepted, refused}
+use Rattle.refusals.specs.Table.{Answer, accepted, refused}
 use Rattle.gmp_settings.specs.Settings.{outside}
 use Rattle.gmp_standing.specs.declared.Count.the-variants.{Known, Unknown}
 use Rattle.gmp_standing.specs.Standing.{Finding, finding, READ, TRACKED, PAIRED, BADCHECK, WAITING}

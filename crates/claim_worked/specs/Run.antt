@@ -7,7 +7,8 @@ use Prim.Native.Nat.{ℕ, _<_}
 use lib.Dec.{T, ltb, ltb→lt}
 use Rattle.gmp_crc8.specs.Check.{budget}
 use Rattle.gmp_settings.specs.declared.Settings.{Settings}
-use Rattle.gmp_settings.specs.Refusals.{Answer, accepted}
+use Rattle.gmp_settings.specs.Settings.{newSettings}
+use Rattle.refusals.specs.Table.{Answer, accepted}
 use Rattle.gmp_standing.specs.declared.Count.the-variants.{Known, Unknown}
 use Rattle.gmp_standing.specs.Standing.{Finding, finding, READ, TRACKED, PAIRED, BADCHECK, WAITING}
 use Rattle.gmp_control.specs.declared.Remembered.the-variants.{Word}
@@ -32,10 +33,10 @@ bytes (b ∷ l) h = bytes-by b l (ltb b 256) refl h (bytes l)
 
 -- the settings of all, and others that number 1 turns back
 abbrev pub small : Settings
-small = record { k = 2; lo = 0; hi = 8 }
+small = newSettings 2 0 8
 
 abbrev pub wrong : Settings
-wrong = record { k = 0; lo = 0; hi = 8 }
+wrong = newSettings 0 0 8
 
 -- a buffer of a frame's length
 abbrev pub room : List ℕ

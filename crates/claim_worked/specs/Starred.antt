@@ -8,6 +8,7 @@ use Rattle.gmp_settings.specs.Settings.{opu0}
 use Rattle.gmp_standing.specs.declared.Count.the-variants.{Known, Unknown}
 use Rattle.gmp_standing.specs.Standing.{Finding, finding, READ, TRACKED, PAIRED, BADCHECK, WAITING, OUTSIDE}
 use Rattle.gmp_control.specs.declared.Remembered.the-variants.{Nothing}
+use Rattle.gmp_control.specs.Worked.{wide, narrow}
 use Rattle.gmp_stuffing.specs.Places.{carries}
 use Rattle.gmp_frame.specs.declared.Control.{Control}
 use Rattle.gmp_rate.specs.Rate.{firstRemainder}
@@ -46,13 +47,7 @@ unfoldable pub carrying : ℕ → ℕ → ℕ → List ℕ
 carrying C S zero = []
 carrying C S (suc n) = carrying C S n ++ cond (carries C S (suc n)) (suc n ∷ []) []
 
--- windows 0 to 15232 and 0 to 8 on OPU0's grid, and a sink that knows a false count
-abbrev pub wide : Settings
-wide = record { k = 3808; lo = 0; hi = 15232 }
-
-abbrev pub narrow : Settings
-narrow = record { k = 3808; lo = 0; hi = 8 }
-
+-- a sink that knows a false count
 abbrev pub misled : SinkState
 misled = record { count = Known 2932; word = Nothing }
 

@@ -2,7 +2,7 @@
 use mathlib.Core.Path.{_≡_, refl}
 use Prim.Native.Nat.{ℕ}
 use Rattle.gmp_settings.specs.declared.Settings.{Settings}
-use Rattle.gmp_settings.specs.Settings.{opu0, outside}
+use Rattle.gmp_settings.specs.Settings.{newSettings, opu0, outside}
 use Rattle.gmp_standing.specs.declared.Count.the-variants.{Known, Unknown}
 use Rattle.gmp_standing.specs.Standing.{finding, READ, TRACKED, PAIRED, WAITING, OUTSIDE}
 use Rattle.gmp_standing.specs.Known.{inWindow}
@@ -32,11 +32,11 @@ unfolding announced
 words = (refl, refl, refl, refl, refl, refl)
 
 -- the window 0 to 15232 on OPU0's grid, and the window 0 to 8
-abbrev wide : Settings
-wide = record { k = 3808; lo = 0; hi = 15232 }
+abbrev pub wide : Settings
+wide = newSettings 3808 0 15232
 
-abbrev narrow : Settings
-narrow = record { k = 3808; lo = 0; hi = 8 }
+abbrev pub narrow : Settings
+narrow = newSettings 3808 0 8
 
 -- "A new OPU0 sink reads 4B B6 38 (WAITING), then 4B 8A 19: PAIRED, 14409."
 pub hunting :

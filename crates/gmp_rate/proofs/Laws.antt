@@ -9,9 +9,10 @@ use lib.Dec.{eqb, ltb, leb, lit<}
 use borrow.Author.Tests.{eqb-false, ltb-false, leb-false, le-ltb, eq-eqb, ne-eqb}
 use Rattle.math.specs.Choice.{neither}
 use Rattle.gmp_settings.specs.declared.Settings.{Settings}
-use Rattle.gmp_settings.specs.Refusals.{ascending, accepted, refused}
+use Rattle.refusals.specs.Table.{accepted, refused}
 use Rattle.gmp_settings.specs.Settings.{settingsReasons, Fit, outside}
-use Rattle.gmp_settings.proofs.Laws.{none-applies, settings-fit, all-passed}
+use Rattle.refusals.proofs.Laws.{none-applies}
+use Rattle.gmp_settings.proofs.Laws.{settings-fit, all-passed}
 use Rattle.gmp_rate.specs.Rate.{badDivisor, badRate, badRemainder, keeperReasons, keeperRefusal, keptBy, keeperCall}
 
 -- a call to which no line applies
@@ -70,7 +71,3 @@ pub call-refused : (s : Settings) (p q r : ℕ) → (keeperRefusal s p q r ≡ 0
     → keeperCall s p q r ≡ record { answer = refused (keeperRefusal s p q r); remainder = r }
 unfolding keeperCall
 call-refused s p q r h = simp (ne-eqb _ _ h)
-
--- the lines of the keeper's table stand in ascending order
-pub keeper-ascending : (s : Settings) (p q r : ℕ) → ascending 0 (settingsReasons s ++ keeperReasons s p q r) ≡ true
-keeper-ascending s p q r = refl

@@ -10,7 +10,7 @@ use lib.Arith.{digits-div}
 use lib.Dec.{eqb}
 use lib.ListN.{length}
 use borrow.Author.Tests.{eqb-true, eqb-false}
-use Rattle.gmp_settings.specs.Refusals.{accepted, accepts}
+use Rattle.refusals.specs.Table.{accepted, accepts}
 use Rattle.gmp_settings.specs.Settings.{outside}
 use Rattle.gmp_rate.specs.Rate.{Kept, keeperRefusal, keeperCall, firstRemainder}
 use Rattle.gmp_rate.specs.Sum.{KeeperCall, answered, given, countsFrom, SharedRate, sum, CountsAddUp}

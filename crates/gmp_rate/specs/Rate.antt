@@ -5,8 +5,9 @@ use mathlib.Core.List.{List, [], _∷_, _++_}
 use Prim.Native.Nat.{ℕ, _+_, _*_, _/_, _%_}
 use lib.Dec.{eqb, ltb, leb}
 use Rattle.gmp_settings.specs.declared.Settings.{Settings}
-use Rattle.gmp_settings.specs.declared.Refusal.{Refusal}
-use Rattle.gmp_settings.specs.Refusals.{refusalNumber, Reason, reason, lowest, Answer, accepted, refused, answerBy}
+use Rattle.gmp_refusal.specs.declared.Refusal.{Refusal}
+use Rattle.refusals.specs.Table.{Reason, reason, lowest, Answer, accepted, refused, answerBy}
+use Rattle.gmp_refusal.specs.Refusal.{refusalNumber}
 use Rattle.gmp_settings.specs.Settings.{settingsReasons}
 use Rattle.gmp_rate.specs.declared.KeeperAnswer.{KeeperAnswer}
 use Rattle.gmp_rate.specs.declared.KeeperAnswer.the-variants.{Next, Refused}

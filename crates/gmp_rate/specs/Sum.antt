@@ -6,7 +6,7 @@ use mathlib.Core.List.{List, [], _∷_, _++_}
 use Prim.Native.Nat.{ℕ, _+_, _*_, _/_, _<_}
 use lib.ListN.{length}
 use Rattle.gmp_settings.specs.declared.Settings.{Settings}
-use Rattle.gmp_settings.specs.Refusals.{Answer, accepted, refused, accepts}
+use Rattle.refusals.specs.Table.{Answer, accepted, refused, accepts}
 use Rattle.gmp_settings.specs.Settings.{outside}
 use Rattle.gmp_rate.specs.Rate.{Kept, keeperCall, firstRemainder}
 

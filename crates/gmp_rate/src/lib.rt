@@ -1,10 +1,11 @@
 // The rate keeper: from a rate p / q of client bytes a frame it gives the count of each frame, and keeps the remainder.
-use gmp_settings::Refusal;
+use gmp_refusal::Refusal;
+use gmp_refusal::Verdict;
 use gmp_settings::Settings;
-use gmp_settings::Verdict;
 ghost use mathlib.Core.Path.{_≡_};
-ghost use Rattle.gmp_settings.specs.Refusals.{verdictNumber};
-ghost use Rattle.gmp_rate.specs.Rate.{keeperRefusal, resultMeaning, keeperCall, firstRemainder};
+ghost use Prim.Native.Nat.{_/_};
+ghost use Rattle.gmp_refusal.specs.Refusal.{verdictNumber};
+ghost use Rattle.gmp_rate.specs.Rate.{badDivisor, badRate, keeperRefusal, resultMeaning, keeperCall, firstRemainder};
 ghost use Rattle.gmp_rate.specs.Sum.{CountsAddUp};
 
 // The next count, or why the call is turned back.
@@ -53,26 +54,40 @@ pub fn counts_add_up()
 fn judge_call(settings: Settings, p: u32, q: u32, r: u32) -> Verdict
     ensures { λ v. ⌜ verdictNumber v ≡ keeperRefusal settings p q r ⌝ }
 {
-    let verdict = gmp_settings::judge(settings);
-    let Verdict::Accepted = verdict else {
-        return verdict;
-    };
+    let fit = gmp_settings::judge(settings);
+    let divisor = gmp_refusal::refuse_if(fit, is_bad_divisor(q), Refusal::Divisor);
+    let rate = gmp_refusal::refuse_if(divisor, is_bad_rate(settings, p, q), Refusal::Rate);
+    gmp_refusal::refuse_if(rate, q <= r, Refusal::State)
+}
+
+// Number 3: q is 0 or above 65,535.
+fn is_bad_divisor(q: u32) -> bool
+    ensures { λ b. ⌜ b ≡ badDivisor q ⌝ }
+{
+    if q == 0 {
+        return true;
+    }
+    65535 < q
+}
+
+// Number 4: the whole part of p / q is below lo, or p is above hi times q.
+fn is_bad_rate(settings: Settings, p: u32, q: u32) -> bool
+    ensures { λ b. ⌜ b ≡ badRate settings p q ⌝ }
+{
     let lo = settings.lo;
     let hi = settings.hi;
+    if whole_part(p, q) < lo {
+        return true;
+    }
+    (hi as u64) * (q as u64) < p as u64
+}
+
+// The whole part of p / q; 0 where q is 0.
+fn whole_part(p: u32, q: u32) -> u32
+    ensures { λ r. ⌜ r ≡ p / q ⌝ }
+{
     if q == 0 {
-        return Verdict::Refused(Refusal::Divisor);
+        return 0;
     }
-    if 65535 < q {
-        return Verdict::Refused(Refusal::Divisor);
-    }
-    if p / q < lo {
-        return Verdict::Refused(Refusal::Rate);
-    }
-    if hi * q < p {
-        return Verdict::Refused(Refusal::Rate);
-    }
-    if q <= r {
-        return Verdict::Refused(Refusal::State);
-    }
-    Verdict::Accepted
+    p / q
 }

@@ -4,9 +4,13 @@ use mathlib.Core.Bool.{Bool, _||_}
 use mathlib.Core.List.{List, [], _∷_}
 use Prim.Native.Nat.{ℕ, _<_, _≤_}
 use lib.Dec.{ltb, eqb}
+use Rattle.refusals.specs.Table.{Reason, reason}
 use Rattle.gmp_settings.specs.declared.Settings.{Settings}
 use Rattle.gmp_settings.specs.Grid.{payloadBytes}
-use Rattle.gmp_settings.specs.Refusals.{Reason, reason}
+
+-- "The settings are a grid K .. and a window lo to hi": every record of settings is made here
+abbrev pub newSettings : ℕ → ℕ → ℕ → Settings
+newSettings k lo hi = record { k = k; lo = lo; hi = hi }
 
 -- the most payload columns in a row: those of OPU0
 abbrev pub widestGrid : ℕ
@@ -14,7 +18,7 @@ widestGrid = 3808
 
 -- "OPU0 has K = 3,808, S = 15,232, window 14,405 to 14,410"
 abbrev pub opu0 : Settings
-opu0 = record { k = 3808; lo = 14405; hi = 14410 }
+opu0 = newSettings 3808 14405 14410
 
 -- number 1, grid: "K is 0 or above 3,808"
 abbrev pub badGrid : Settings → Bool

@@ -1,8 +1,11 @@
-// The settings of a card, and why a call is turned back.
+// The settings of a card: the grid of a frame and the window of counts.
+use gmp_refusal::Refusal;
+use gmp_refusal::Verdict;
 ghost use mathlib.Core.Path.{_≡_};
+ghost use Rattle.refusals.specs.Table.{lowest};
+ghost use Rattle.gmp_refusal.specs.Refusal.{verdictNumber};
 ghost use Rattle.gmp_settings.specs.Grid.{frameBytes};
-ghost use Rattle.gmp_settings.specs.Refusals.{verdictNumber, lowest};
-ghost use Rattle.gmp_settings.specs.Settings.{settingsReasons, outside};
+ghost use Rattle.gmp_settings.specs.Settings.{newSettings, opu0, badGrid, badWindow, settingsReasons, outside};
 
 // The grid K, payload columns in a row, and the window of counts.
 #[repr(C)]
@@ -12,45 +15,53 @@ pub struct Settings {
     pub hi: u32,
 }
 
-// Why a call is turned back, in the order of the paper's numbers 1 to 9.
-pub enum Refusal {
-    Grid,
-    Window,
-    Divisor,
-    Rate,
-    State,
-    Count,
-    Client,
-    Frame,
-    Space,
+// The settings of this grid and window. Any numbers go: a call judges them.
+pub fn new_settings(k: u32, lo: u32, hi: u32) -> Settings
+    ensures { λ r. ⌜ r ≡ newSettings k lo hi ⌝ }
+{
+    Settings {
+        k: k,
+        lo: lo,
+        hi: hi,
+    }
 }
 
-// What a call's checks come to.
-pub enum Verdict {
-    Accepted,
-    Refused(Refusal),
+// The settings of OPU0.
+pub fn opu0() -> Settings
+    ensures { λ r. ⌜ r ≡ opu0 ⌝ }
+{
+    new_settings(3808, 14405, 14410)
 }
 
 // Numbers 1 and 2: the checks that every call begins with.
 pub fn judge(settings: Settings) -> Verdict
     ensures { λ r. ⌜ verdictNumber r ≡ lowest (settingsReasons settings) ⌝ }
 {
+    let grid = gmp_refusal::refuse_if(Verdict::Accepted, is_bad_grid(settings), Refusal::Grid);
+    gmp_refusal::refuse_if(grid, is_bad_window(settings), Refusal::Window)
+}
+
+// Number 1: K is 0 or above 3,808.
+fn is_bad_grid(settings: Settings) -> bool
+    ensures { λ r. ⌜ r ≡ badGrid settings ⌝ }
+{
     let k = settings.k;
+    if k == 0 {
+        return true;
+    }
+    3808 < k
+}
+
+// Number 2: lo is above hi, or hi above the four rows' payload bytes.
+fn is_bad_window(settings: Settings) -> bool
+    ensures { λ r. ⌜ r ≡ badWindow settings ⌝ }
+{
     let lo = settings.lo;
     let hi = settings.hi;
-    if k == 0 {
-        return Verdict::Refused(Refusal::Grid);
-    }
-    if 3808 < k {
-        return Verdict::Refused(Refusal::Grid);
-    }
     if hi < lo {
-        return Verdict::Refused(Refusal::Window);
+        return true;
     }
-    if 4 * k < hi {
-        return Verdict::Refused(Refusal::Window);
-    }
-    Verdict::Accepted
+    4 * (settings.k as usize) < hi as usize
 }
 
 // Whether a count lies outside the window.
@@ -70,24 +81,4 @@ pub fn frame_length(settings: Settings) -> usize
     ensures { λ r. ⌜ r ≡ frameBytes (settings .k) ⌝ }
 {
     4 * (settings.k as usize) + 8
-}
-
-// The paper's number of a verdict, 0 for an accepted call.
-pub fn refusal_number(verdict: Verdict) -> u32
-    ensures { λ r. ⌜ r ≡ verdictNumber verdict ⌝ }
-{
-    let Verdict::Refused(refusal) = verdict else {
-        return 0;
-    };
-    match refusal {
-        Refusal::Grid => 1,
-        Refusal::Window => 2,
-        Refusal::Divisor => 3,
-        Refusal::Rate => 4,
-        Refusal::State => 5,
-        Refusal::Count => 6,
-        Refusal::Client => 7,
-        Refusal::Frame => 8,
-        Refusal::Space => 9,
-    }
 }

@@ -9,11 +9,13 @@ use lib.ListN.{length, drop}
 use borrow.Author.Tests.{eqb-true, ltb-false, not-false, eq-eqb, ne-eqb}
 use Rattle.gmp_crc8.specs.Check.{passes}
 use Rattle.gmp_settings.specs.declared.Settings.{Settings}
-use Rattle.gmp_settings.specs.declared.Refusal.{Refusal}
+use Rattle.gmp_refusal.specs.declared.Refusal.{Refusal}
 use Rattle.gmp_settings.specs.Grid.{payloadBytes, frameBytes}
-use Rattle.gmp_settings.specs.Refusals.{ascending, accepted, refused, refusalNumber}
+use Rattle.refusals.specs.Table.{accepted, refused}
+use Rattle.gmp_refusal.specs.Refusal.{refusalNumber}
 use Rattle.gmp_settings.specs.Settings.{settingsReasons, Fit, outside}
-use Rattle.gmp_settings.proofs.Laws.{none-applies, all-passed, settings-fit, inside-window}
+use Rattle.refusals.proofs.Laws.{none-applies}
+use Rattle.gmp_settings.proofs.Laws.{all-passed, settings-fit, inside-window}
 use Rattle.gmp_standing.specs.declared.Count.{Count}
 use Rattle.gmp_standing.specs.declared.Count.the-variants.{Known, Unknown}
 use Rattle.gmp_standing.specs.declared.Standing.{Standing}
@@ -141,10 +143,6 @@ hands-out s z frame out n after zero known e =
 -- a state by its two parts
 pub state-of-parts : (count : Count) (word : Remembered) (x : SinkState) → count ≡ x .count → word ≡ x .word → record { count = count; word = word } ≡ x
 state-of-parts count word x e f = ap₂ (λ (c : Count) (w : Remembered). record { count = c; word = w }) e f
-
--- the lines of the sink's table stand in ascending order
-pub sink-ascending : (s : Settings) (f o : ℕ) → ascending 0 (settingsReasons s ++ sinkReasons s f o) ≡ true
-sink-ascending s f o = refl
 
 -- A call that no number turns back is not refused, and its standing is what the control bytes lead to.
 module _ {s : Settings} {z : SinkState} {frame out : List ℕ} (none : sinkRefusal s (length frame) (length out) ≡ 0) {r : SinkResult} {after : List ℕ}

@@ -9,7 +9,8 @@ use lib.ListN.{length, drop}
 use Rattle.gmp_crc8.specs.Check.{passes}
 use Rattle.gmp_settings.specs.declared.Settings.{Settings}
 use Rattle.gmp_settings.specs.Grid.{frameBytes}
-use Rattle.gmp_settings.specs.Refusals.{refusalNumber, Reason, reason, lowest, Answer, accepted, refused, answerBy}
+use Rattle.refusals.specs.Table.{Reason, reason, lowest, Answer, accepted, refused, answerBy}
+use Rattle.gmp_refusal.specs.Refusal.{refusalNumber}
 use Rattle.gmp_settings.specs.Settings.{settingsReasons}
 use Rattle.gmp_standing.specs.declared.Count.{Count}
 use Rattle.gmp_standing.specs.declared.Count.the-variants.{Known, Unknown}

@@ -1,6 +1,6 @@
 // The sink: its state, what it answers, and a new sink. The call that takes a frame is in the crate demapping.
 use gmp_control::Remembered;
-use gmp_settings::Refusal;
+use gmp_refusal::Refusal;
 use gmp_standing::Count;
 use gmp_standing::Standing;
 ghost use mathlib.Core.Path.{_≡_};

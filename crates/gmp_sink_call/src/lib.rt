@@ -2,9 +2,9 @@
 use gmp_control::Followed;
 use gmp_control::Remembered;
 use gmp_frame::Control;
-use gmp_settings::Refusal;
+use gmp_refusal::Refusal;
+use gmp_refusal::Verdict;
 use gmp_settings::Settings;
-use gmp_settings::Verdict;
 use gmp_sink::SinkAnswer;
 use gmp_sink::SinkResult;
 use gmp_sink::SinkState;
@@ -12,7 +12,7 @@ use gmp_standing::Count;
 use gmp_standing::Standing;
 ghost use mathlib.Core.Path.{_≡_};
 ghost use lib.ListN.{length};
-ghost use Rattle.gmp_settings.specs.Refusals.{verdictNumber};
+ghost use Rattle.gmp_refusal.specs.Refusal.{verdictNumber};
 ghost use Rattle.gmp_sink.specs.Sink.{sinkRefusal, handed, HandsOut, ReadsControl, SinkPromise};
 
 // Takes a frame. A refused call returns the state that it was given and leaves the output buffer as it was.
@@ -86,15 +86,8 @@ fn read_control(settings: Settings, state: SinkState, control: Control) -> Follo
 fn judge_call(settings: Settings, frame_length: usize, space: usize) -> Verdict
     ensures { λ v. ⌜ verdictNumber v ≡ sinkRefusal settings «frame_length» space ⌝ }
 {
-    let verdict = gmp_settings::judge(settings);
-    let Verdict::Accepted = verdict else {
-        return verdict;
-    };
-    if frame_length != gmp_settings::frame_length(settings) {
-        return Verdict::Refused(Refusal::Frame);
-    }
-    if space < settings.hi as usize {
-        return Verdict::Refused(Refusal::Space);
-    }
-    Verdict::Accepted
+    let fit = gmp_settings::judge(settings);
+    let length = gmp_settings::frame_length(settings);
+    let frame = gmp_refusal::refuse_if(fit, frame_length != length, Refusal::Frame);
+    gmp_refusal::refuse_if(frame, space < settings.hi as usize, Refusal::Space)
 }

@@ -11,9 +11,9 @@ use Rattle.gmp_crc8.specs.Check.{passes}
 use Rattle.gmp_crc8.proofs.Laws.{written-passes, remainder-lt}
 use Rattle.gmp_settings.specs.declared.Settings.{Settings}
 use Rattle.gmp_settings.specs.Grid.{payloadBytes, frameBytes}
-use Rattle.gmp_settings.specs.Refusals.{ascending}
 use Rattle.gmp_settings.specs.Settings.{settingsReasons, Fit, outside}
-use Rattle.gmp_settings.proofs.Laws.{none-applies, all-passed, settings-fit, inside-window}
+use Rattle.refusals.proofs.Laws.{none-applies, Judged}
+use Rattle.gmp_settings.proofs.Laws.{all-passed, settings-fit, inside-window}
 use Rattle.gmp_control.specs.Word.{wordBytes, wordBy}
 use Rattle.gmp_control.specs.Pattern.{tableOf}
 use Rattle.gmp_control.specs.Announce.{announced}
@@ -106,9 +106,7 @@ pub length-of-written : (s : Settings) (z : SourceState) (next : ℕ) (client : 
 unfolding written
 length-of-written s z next client = length-frame (s .k) client (controlBytes s (z .count) next) (psi z)
 
--- the lines of both tables stand in ascending order
-pub start-ascending : (s : Settings) (first : ℕ) → ascending 0 (settingsReasons s ++ startReasons s first) ≡ true
-start-ascending s first = refl
-
-pub source-ascending : (s : Settings) (z : SourceState) (next c b : ℕ) → ascending 0 (settingsReasons s ++ sourceReasons s z next c b) ≡ true
-source-ascending s z next c b = refl
+-- a judge of a call begins with the lines of a new source
+pub start-judged : (s : Settings) (first : ℕ) {answer : ℕ} → answer ≡ startRefusal s first → Judged answer (settingsReasons s ++ startReasons s first)
+unfolding startRefusal
+start-judged s first e = record { by = e; up = refl }

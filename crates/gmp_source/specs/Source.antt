@@ -8,7 +8,8 @@ use lib.ListN.{length}
 use Rattle.gmp_crc8.specs.Check.{remainder}
 use Rattle.gmp_settings.specs.declared.Settings.{Settings}
 use Rattle.gmp_settings.specs.Grid.{frameBytes}
-use Rattle.gmp_settings.specs.Refusals.{refusalNumber, verdictNumber, Reason, reason, lowest, Answer, accepted, refused, answerBy}
+use Rattle.refusals.specs.Table.{Reason, reason, lowest, Answer, accepted, refused, answerBy}
+use Rattle.gmp_refusal.specs.Refusal.{refusalNumber, verdictNumber}
 use Rattle.gmp_settings.specs.Settings.{settingsReasons, outside}
 use Rattle.gmp_control.specs.declared.WordBytes.{WordBytes}
 use Rattle.gmp_control.specs.Word.{wordBytes}

@@ -1,9 +1,9 @@
 // The source: its state, what it answers, and a new source. The call that writes a frame is in the crate mapping.
-use gmp_settings::Refusal;
+use gmp_refusal::Refusal;
+use gmp_refusal::Verdict;
 use gmp_settings::Settings;
-use gmp_settings::Verdict;
 ghost use mathlib.Core.Path.{_≡_};
-ghost use Rattle.gmp_settings.specs.Refusals.{verdictNumber};
+ghost use Rattle.gmp_refusal.specs.Refusal.{verdictNumber};
 ghost use Rattle.gmp_source.specs.Source.{startRefusal, newSource, startMeaning};
 
 // The present count, the multiframe number and the payload type.
@@ -45,12 +45,7 @@ pub fn new_source(settings: Settings, first: u32, payload_type: u8) -> SourceSta
 pub fn judge_start(settings: Settings, count: u32) -> Verdict
     ensures { λ v. ⌜ verdictNumber v ≡ startRefusal settings count ⌝ }
 {
-    let verdict = gmp_settings::judge(settings);
-    let Verdict::Accepted = verdict else {
-        return verdict;
-    };
-    if gmp_settings::is_outside(settings, count) {
-        return Verdict::Refused(Refusal::State);
-    }
-    Verdict::Accepted
+    let fit = gmp_settings::judge(settings);
+    let is_outside = gmp_settings::is_outside(settings, count);
+    gmp_refusal::refuse_if(fit, is_outside, Refusal::State)
 }

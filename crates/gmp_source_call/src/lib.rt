@@ -1,13 +1,13 @@
 // The source's call: it maps client bytes into a frame and announces in it the count of the next.
 use gmp_frame::Control;
-use gmp_settings::Refusal;
+use gmp_refusal::Refusal;
+use gmp_refusal::Verdict;
 use gmp_settings::Settings;
-use gmp_settings::Verdict;
 use gmp_source::SourceResult;
 use gmp_source::SourceState;
 ghost use mathlib.Core.Path.{_≡_};
 ghost use lib.ListN.{length};
-ghost use Rattle.gmp_settings.specs.Refusals.{verdictNumber};
+ghost use Rattle.gmp_refusal.specs.Refusal.{verdictNumber};
 ghost use Rattle.gmp_source.specs.Source.{sourceRefusal, psi, controlBytes, SourcePromise};
 
 // Writes the next frame: the client bytes at the places of the present count, and the word that announces the next count. A refused call
@@ -50,21 +50,13 @@ fn judge_call(
 ) -> Verdict
     ensures { λ v. ⌜ verdictNumber v ≡ sourceRefusal settings state next «client_length» «frame_length» ⌝ }
 {
-    let verdict = gmp_source::judge_start(settings, state.count);
-    let Verdict::Accepted = verdict else {
-        return verdict;
-    };
-    if gmp_settings::is_outside(settings, next) {
-        return Verdict::Refused(Refusal::Count);
-    }
     let present = state.count;
-    if client_length != present as usize {
-        return Verdict::Refused(Refusal::Client);
-    }
-    if frame_length != gmp_settings::frame_length(settings) {
-        return Verdict::Refused(Refusal::Frame);
-    }
-    Verdict::Accepted
+    let start = gmp_source::judge_start(settings, present);
+    let is_outside = gmp_settings::is_outside(settings, next);
+    let count = gmp_refusal::refuse_if(start, is_outside, Refusal::Count);
+    let client = gmp_refusal::refuse_if(count, client_length != present as usize, Refusal::Client);
+    let length = gmp_settings::frame_length(settings);
+    gmp_refusal::refuse_if(client, frame_length != length, Refusal::Frame)
 }
 
 // JC1 to JC3 of the word that announces the next count.

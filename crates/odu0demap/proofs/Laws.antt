@@ -6,8 +6,8 @@ use native.Mathlib.Omega.{arith}
 use lib.ListN.{length, take, drop, length-append}
 use lib.Seq.{take-at}
 use Rattle.io.specs.Counts.{Counts}
-use Rattle.gmp_settings.specs.declared.Refusal.{Refusal}
-use Rattle.gmp_settings.specs.Refusals.{Answer, accepted}
+use Rattle.gmp_refusal.specs.declared.Refusal.{Refusal}
+use Rattle.refusals.specs.Table.{Answer, accepted}
 use Rattle.gmp_settings.specs.Settings.{opu0}
 use Rattle.gmp_standing.specs.declared.Standing.{Standing}
 use Rattle.gmp_standing.specs.Standing.{Finding, standingMeaning, standingNumber}

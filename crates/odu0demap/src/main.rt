@@ -1,7 +1,6 @@
 // Takes OPU0 frames on standard input and hands out their client bytes on standard output. On standard error it writes a line for the first
 // frame's standing and for each change of it, in its word or in the count found, and at the end the card's tally.
 use card_tally::Tally;
-use gmp_settings::Settings;
 use gmp_sink::SinkAnswer;
 use gmp_sink::SinkState;
 use gmp_standing::Count;
@@ -121,11 +120,7 @@ fn demap_frame(demapper: Demapper, frame: &[u8], out: &mut [u8]) -> Taken
     requires { ⌜ (length (now frame) ≡ 15240) × (length (now out) ≡ 14410) ⌝ }
     ensures { λ r. ⌜ Takes demapper (now (frame .entry)) r (now (out .exit)) ⌝ }
 {
-    let settings = Settings {
-        k: 3808,
-        lo: 14405,
-        hi: 14410,
-    };
+    let settings = gmp_settings::opu0();
     let state = demapper.state;
     let counted = card_sink::count_call(settings, state, frame, out, demapper.tally);
     let result = counted.result;

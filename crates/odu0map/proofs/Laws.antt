@@ -9,11 +9,13 @@ use lib.Dec.{eqb, lit<}
 use lib.ListN.{length, getD}
 use borrow.Author.Tests.{eqb-true, eq-eqb, lt-leb}
 use Rattle.gmp_settings.specs.declared.Settings.{Settings}
-use Rattle.gmp_settings.specs.declared.Refusal.{Refusal}
-use Rattle.gmp_settings.specs.declared.Refusal.the-variants.{Grid, Window, Divisor, Rate as BadRate, State, Count, Client, Frame, Space}
-use Rattle.gmp_settings.specs.Refusals.{refusalNumber, accepted, refused, answerBy}
+use Rattle.gmp_refusal.specs.declared.Refusal.{Refusal}
+use Rattle.gmp_refusal.specs.declared.Refusal.the-variants.{Grid, Window, Divisor, Rate as BadRate, State, Count, Client, Frame, Space}
+use Rattle.refusals.specs.Table.{accepted, refused, answerBy}
+use Rattle.gmp_refusal.specs.Refusal.{refusalNumber}
 use Rattle.gmp_settings.specs.Settings.{opu0, outside}
-use Rattle.gmp_settings.proofs.Laws.{none-applies, all-passed, inside-window}
+use Rattle.refusals.proofs.Laws.{none-applies}
+use Rattle.gmp_settings.proofs.Laws.{all-passed, inside-window}
 use Rattle.gmp_rate.specs.declared.KeeperResult.{KeeperResult}
 use Rattle.gmp_rate.specs.declared.KeeperAnswer.the-variants.{Next, Refused}
 use Rattle.gmp_rate.specs.Rate.{badDivisor, badRate, badRemainder, keeperReasons, keeperRefusal, Kept, answerMeaning, resultMeaning, keeperCall, firstRemainder}
@@ -174,29 +176,3 @@ unfolding startAnswer
 starts-ready a m e =
     let g = by-number (refusalFrom a (firstRemainder (a .q))) m (newMapper a) e in
     goes-on a (firstRemainder (a .q)) m (g .0) (ap (λ (y : Mapper). y .source .count) (g .1)) (ap (λ (y : Mapper). y .remainder) (g .1))
-
--- how many letters the refusals' words have, and where in their text the word with a number ends
-abbrev nameLengths : List ℕ
-nameLengths = 4 ∷ 6 ∷ 7 ∷ 4 ∷ 5 ∷ 5 ∷ 6 ∷ 5 ∷ 5 ∷ []
-
-abbrev end : ℕ → ℕ
-end n = 7 * (n - 1) + getD nameLengths (n - 1) 0
-
-pub record Named (n : ℕ) : Type 0 where
-  pub from-one : 1 ≤ n
-  pub to-nine : n ≤ 9
-  pub within : end n ≤ 63
-
-numbered : (x : Refusal) → Named (refusalNumber x)
-numbered Grid = record { from-one = omega arith; to-nine = omega arith; within = omega arith }
-numbered Window = record { from-one = omega arith; to-nine = omega arith; within = omega arith }
-numbered Divisor = record { from-one = omega arith; to-nine = omega arith; within = omega arith }
-numbered BadRate = record { from-one = omega arith; to-nine = omega arith; within = omega arith }
-numbered State = record { from-one = omega arith; to-nine = omega arith; within = omega arith }
-numbered Count = record { from-one = omega arith; to-nine = omega arith; within = omega arith }
-numbered Client = record { from-one = omega arith; to-nine = omega arith; within = omega arith }
-numbered Frame = record { from-one = omega arith; to-nine = omega arith; within = omega arith }
-numbered Space = record { from-one = omega arith; to-nine = omega arith; within = omega arith }
-
-pub named : (x : Refusal) (n : ℕ) → n ≡ refusalNumber x → Named n
-named x n e = subst Named (sym e) (numbered x)

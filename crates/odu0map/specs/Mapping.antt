@@ -3,7 +3,8 @@ use mathlib.Core.Path.{_≡_}
 use mathlib.Core.Bool.{false}
 use mathlib.Core.List.{List}
 use Prim.Native.Nat.{ℕ, _+_, _/_, _%_}
-use Rattle.gmp_settings.specs.Refusals.{refusalNumber, Answer, accepted, refused, answerBy}
+use Rattle.refusals.specs.Table.{Answer, accepted, refused, answerBy}
+use Rattle.gmp_refusal.specs.Refusal.{refusalNumber}
 use Rattle.gmp_settings.specs.Settings.{opu0, outside}
 use Rattle.gmp_rate.specs.Rate.{keeperRefusal, firstRemainder}
 use Rattle.gmp_source.specs.Source.{startState, nextState, written}

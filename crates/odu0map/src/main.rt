@@ -1,9 +1,10 @@
 // Maps standard input, a stream of client bytes, into OPU0 frames on standard output, at the rate p / q of client bytes a frame. The two
 // numbers are the program's arguments; with none the rate is 18,671,875 / 1,296.
 use gmp_rate::KeeperAnswer;
-use gmp_settings::Refusal;
-use gmp_settings::Settings;
-use gmp_settings::Verdict;
+use gmp_refusal::NAMES;
+use gmp_refusal::NAME_LENGTHS;
+use gmp_refusal::Refusal;
+use gmp_refusal::Verdict;
 use gmp_source::SourceStart;
 use gmp_source::SourceState;
 use libc::STDERR_FILENO;
@@ -12,13 +13,7 @@ use program_decimal::Number;
 use program_stream::Got;
 ghost use mathlib.Core.Path.{_≡_};
 ghost use lib.ListN.{length};
-ghost use Rattle.gmp_settings.specs.Settings.{opu0};
 ghost use Rattle.odu0map.specs.Mapping.{Ready, startMeaning, startAnswer, Goes, Maps};
-
-// The words of the refusals in the order of their numbers, each in 7 bytes, and how many letters each has.
-const NAMES: [u8; 63] = *b"grid   window divisorrate   state  count  client frame  space  ";
-
-const NAME_LENGTHS: [usize; 9] = [4, 6, 7, 4, 5, 5, 6, 5, 5];
 
 // The rate p / q.
 struct Rate {
@@ -94,13 +89,18 @@ fn asked_rate() -> Asked {
 fn new_mapper(rate: Rate) -> Start
     ensures { λ r. ⌜ startMeaning r ≡ startAnswer rate ⌝ }
 {
-    let kept = gmp_rate::next_count(opu0(), rate.p, rate.q, gmp_rate::first_remainder(rate.q));
+    let kept = gmp_rate::next_count(
+        gmp_settings::opu0(),
+        rate.p,
+        rate.q,
+        gmp_rate::first_remainder(rate.q),
+    );
     let answer = kept.answer;
     let remainder = kept.remainder;
     match answer {
         KeeperAnswer::Refused(refusal) => Start::Refused(refusal),
         KeeperAnswer::Next(first) => {
-            let started = gmp_source::new_source(opu0(), first, 7);
+            let started = gmp_source::new_source(gmp_settings::opu0(), first, 7);
             match started {
                 SourceStart::Refused(refusal) => Start::Refused(refusal),
                 SourceStart::New(state) => Start::New(Mapper {
@@ -182,28 +182,17 @@ fn make_frame(rate: Rate, mapper: Mapper, load: &[u8], frame: &mut [u8]) -> Mapp
     requires { ⌜ Ready rate mapper × (length (now load) ≡ mapper .source .count) × (length (now frame) ≡ 15240) ⌝ }
     ensures { λ r. ⌜ Maps rate mapper (now (load .entry)) r (now (frame .exit)) ⌝ }
 {
-    let kept = gmp_rate::next_count(opu0(), rate.p, rate.q, mapper.remainder);
+    let kept = gmp_rate::next_count(gmp_settings::opu0(), rate.p, rate.q, mapper.remainder);
     let answer = kept.answer;
     let KeeperAnswer::Next(next) = answer else {
         return mapper;
     };
     let source = mapper.source;
-    let result = gmp_source_call::source_call(opu0(), source, next, load, frame);
+    let result = gmp_source_call::source_call(gmp_settings::opu0(), source, next, load, frame);
     let after = result.state;
     Mapper {
         source: after,
         remainder: kept.remainder,
-    }
-}
-
-// The settings of OPU0.
-fn opu0() -> Settings
-    ensures { λ r. ⌜ r ≡ opu0 ⌝ }
-{
-    Settings {
-        k: 3808,
-        lo: 14405,
-        hi: 14410,
     }
 }
 
@@ -219,7 +208,7 @@ fn show_refusal(refusal: Refusal) {
     show_name(refusal);
     program_stream::say(
         b" (number ",
-        gmp_settings::refusal_number(Verdict::Refused(refusal)) as u64,
+        gmp_refusal::refusal_number(Verdict::Refused(refusal)) as u64,
     );
     io::write_all(STDERR_FILENO, b")\n");
     show_usage();
@@ -227,7 +216,7 @@ fn show_refusal(refusal: Refusal) {
 
 // Writes the word of a refusal to standard error.
 fn show_name(refusal: Refusal) {
-    let place = gmp_settings::refusal_number(Verdict::Refused(refusal)) as usize - 1;
+    let place = gmp_refusal::refusal_number(Verdict::Refused(refusal)) as usize - 1;
     let names: &[u8] = &NAMES;
     let start = 7 * place;
     let end = start + NAME_LENGTHS[place];

@@ -3,7 +3,7 @@ use mathlib.Core.Path.{_≡_, ap, _∙_}
 use mathlib.Core.List.{List}
 use Prim.Native.Nat.{ℕ}
 use lib.ListN.{length}
-use Rattle.gmp_settings.specs.declared.Refusal.{Refusal}
+use Rattle.gmp_refusal.specs.declared.Refusal.{Refusal}
 use Rattle.gmp_standing.specs.declared.Standing.{Standing}
 use Rattle.gmp_standing.specs.Standing.{standingMeaning}
 use Rattle.gmp_sink.specs.declared.SinkState.{SinkState}

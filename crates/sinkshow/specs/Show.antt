@@ -5,6 +5,7 @@ use Prim.Native.Nat.{ℕ, _+_}
 use lib.ListN.{length, take}
 use Rattle.io.specs.Counts.{Counts}
 use Rattle.gmp_settings.specs.declared.Settings.{Settings}
+use Rattle.gmp_settings.specs.Settings.{newSettings}
 use Rattle.gmp_frame.specs.Frame.{controlOf}
 use Rattle.gmp_sink.specs.declared.SinkState.{SinkState}
 use Rattle.gmp_sink.specs.Sink.{handed, standingAfter, stateAfter}
@@ -13,7 +14,7 @@ use Rattle.sinkshow.specs.Lines.{frameLine}
 
 -- "K = 2, window 0 to 8"
 abbrev pub small : Settings
-small = record { k = 2; lo = 0; hi = 8 }
+small = newSettings 2 0 8
 
 -- Text put behind the first bytes of a line, with the length then.
 pub record Puts (line : List ℕ) (at : ℕ) (text : List ℕ) (r : ℕ) (after : List ℕ) : Type 0 where

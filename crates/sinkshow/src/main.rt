@@ -1,6 +1,5 @@
 // Shows what a new sink makes of the 16-byte frames on standard input (K = 2, window 0 to 8): a line for each frame, and a last line where
 // the input ends within one. Every byte of a line is promised by the functions that make it.
-use gmp_settings::Settings;
 use gmp_sink::SinkAnswer;
 use gmp_sink::SinkState;
 use gmp_standing::Count;
@@ -97,7 +96,7 @@ fn take_frame(frame_number: u64, state: SinkState, frame: &[u8], line: &mut [u8]
     requires { ⌜ (length (now frame) ≡ 16) × (72 ≤ length (now line)) ⌝ }
     ensures { λ r. ⌜ Shows «frame_number» state (now (frame .entry)) (now (line .entry)) r (now (line .exit)) ⌝ }
 {
-    let settings = Settings { k: 2, lo: 0, hi: 8 };
+    let settings = gmp_settings::new_settings(2, 0, 8);
     let mut out = [0u8; 8];
     let result = gmp_sink_call::take_frame(settings, state, frame, &mut out);
     let answer = result.answer;

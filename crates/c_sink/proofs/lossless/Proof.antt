@@ -1,7 +1,7 @@
 -- `c_sink::lossless` meets its contract: each case computes. Assumes nothing.
 use mathlib.Core.Path.{_≡_, refl, ap₂}
 use Prim.Native.Nat.{ℕ}
-use Rattle.gmp_settings.specs.Refusals.{accepted}
+use Rattle.refusals.specs.Table.{accepted}
 use Rattle.gmp_standing.specs.declared.Count.{Count}
 use Rattle.gmp_standing.specs.declared.Count.the-variants.{Known, Unknown}
 use Rattle.gmp_standing.specs.declared.Standing.{Standing}

@@ -2,7 +2,7 @@
 use mathlib.Core.Path.{_∙_, ap}
 use Prim.Native.Nat.{ℕ}
 use borrow.Author.Needs.{needs}
-use Rattle.gmp_settings.specs.Refusals.{Answer}
+use Rattle.refusals.specs.Table.{Answer}
 use Rattle.gmp_standing.specs.Standing.{Finding}
 use Rattle.gmp_sink.specs.Sink.{answerMeaning, sinkAnswer}
 use Rattle.card_sink.specs.Card.{tallyBy, tallyAfter}

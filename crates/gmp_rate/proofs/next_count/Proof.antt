@@ -3,8 +3,9 @@ use mathlib.Core.Path.{_≡_, _∙_, sym, ap}
 use Prim.Native.Nat.{ℕ, _<_}
 use native.Mathlib.Omega.{arith}
 use borrow.Author.Needs.{needs}
-use Rattle.gmp_settings.specs.Refusals.{verdictNumber, refused}
-use Rattle.gmp_settings.proofs.Laws.{refused-has-number}
+use Rattle.refusals.specs.Table.{refused}
+use Rattle.gmp_refusal.specs.Refusal.{verdictNumber}
+use Rattle.gmp_refusal.proofs.Laws.{refused-has-number}
 use Rattle.gmp_rate.proofs.Laws.{accepted-knows, total-lt, call-accepted, call-refused}
 use Rattle.gmp_rate.proofs.next_count.Statement.{statement}
 use Rattle.gmp_rate.proofs.next_count.Tie as tie

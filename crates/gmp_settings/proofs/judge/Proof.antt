@@ -1,38 +1,37 @@
--- `gmp_settings::judge` meets its contract: each return rewrites with the tests that led to it. Assumes nothing.
+-- `gmp_settings::judge` meets its contract, line by line. Assumes nothing.
+use mathlib.Core.Path.{refl}
+use mathlib.Core.List.{[]}
 use borrow.Author.Needs.{needs}
-use borrow.Author.Tests.{lt-ltb, le-ltb, eq-eqb, ne-eqb}
+use Rattle.refusals.proofs.Laws.{Judged, line}
+use Rattle.gmp_settings.specs.Settings.{badGrid, badWindow}
 use Rattle.gmp_settings.proofs.judge.Statement.{statement}
 use Rattle.gmp_settings.proofs.judge.Tie as tie
 
+is-bad-grid-requires : tie.Need-is-bad-grid-requires
+is-bad-grid-requires c κs = search needs
+
+refuse-if-requires : tie.Need-refuse-if-requires
+refuse-if-requires c κs = search needs
+
+is-bad-window-requires : tie.Need-is-bad-window-requires
+is-bad-window-requires c κs = search needs
+
+refuse-if-requires-2 : tie.Need-refuse-if-requires-2
+refuse-if-requires-2 c κs = search needs
+
 returns : tie.Need-returns
-returns c = simp (eq-eqb _ _ (c .if1 .taken))
-
-returns-2 : tie.Need-returns-2
-returns-2 c = simp (ne-eqb _ _ (c .before .if1 .left), lt-ltb _ _ (c .if2 .taken))
-
-returns-3 : tie.Need-returns-3
-returns-3 c = simp (ne-eqb _ _ (c .before .before .if1 .left), le-ltb _ _ (c .before .if2 .left), lt-ltb _ _ (c .if3 .taken))
-
-mul-if4 : tie.Need-mul-if4
-mul-if4 c = search needs
-
-returns-4 : tie.Need-returns-4
-returns-4 c =
-    simp (
-      ne-eqb _ _ (c .before .before .before .if1 .left),
-      le-ltb _ _ (c .before .before .if2 .left),
-      le-ltb _ _ (c .before .if3 .left),
-      lt-ltb _ _ (c .if4 .taken),
-    )
-
-returns-5 : tie.Need-returns-5
-returns-5 c =
-    simp (
-      ne-eqb _ _ (c .before .before .before .if1 .left),
-      le-ltb _ _ (c .before .before .if2 .left),
-      le-ltb _ _ (c .before .if3 .left),
-      le-ltb _ _ (c .if4 .left),
-    )
+returns c =
+    let s = c .before .before .before .before .args .settings in
+    let nothing : Judged 0 [] = record { by = refl; up = refl } in
+    let grid = line nothing 1 (badGrid s) refl (c .before .before .before .is-bad-grid .ensures) (c .before .before .refuse-if .ensures) in
+    line grid 2 (badWindow s) refl (c .before .is-bad-window .ensures) (c .refuse-if2 .ensures) .by
 
 pub judge-spec : {M : Type 1} → statement M
-judge-spec = tie.close (tie.spec returns returns-2 returns-3 mul-if4 returns-4 returns-5)
+judge-spec =
+    tie.close
+    (tie.spec
+    is-bad-grid-requires
+    refuse-if-requires
+    is-bad-window-requires
+    refuse-if-requires-2
+    returns)

@@ -4,7 +4,7 @@ use mathlib.Core.List.{List, _++_}
 use Prim.Native.Nat.{ℕ}
 use lib.ListN.{length, drop}
 use borrow.Author.Needs.{needs}
-use Rattle.gmp_settings.specs.Refusals.{accepted}
+use Rattle.refusals.specs.Table.{accepted}
 use Rattle.gmp_standing.specs.declared.Count.{Count}
 use Rattle.gmp_standing.specs.Standing.{Finding}
 use Rattle.gmp_control.specs.declared.Remembered.{Remembered}

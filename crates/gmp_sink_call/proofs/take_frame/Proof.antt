@@ -2,8 +2,9 @@
 use mathlib.Core.Path.{_≡_, _∙_, sym, ap}
 use lib.ListN.{length}
 use borrow.Author.Needs.{needs}
-use Rattle.gmp_settings.specs.Refusals.{verdictNumber, refused}
-use Rattle.gmp_settings.proofs.Laws.{refused-has-number}
+use Rattle.refusals.specs.Table.{refused}
+use Rattle.gmp_refusal.specs.Refusal.{verdictNumber}
+use Rattle.gmp_refusal.proofs.Laws.{refused-has-number}
 use Rattle.gmp_sink.proofs.Laws.{answer-refused, state-refused, handed-refused, out-refused}
 use Rattle.gmp_sink_call.proofs.take_frame.Statement.{statement}
 use Rattle.gmp_sink_call.proofs.take_frame.Tie as tie

@@ -3,8 +3,9 @@ use mathlib.Core.Path.{_≡_, _∙_, sym, ap}
 use Prim.Native.Nat.{ℕ}
 use borrow.Author.Tests.{eq-eqb, ne-eqb}
 use borrow.Author.Needs.{needs}
-use Rattle.gmp_settings.specs.Refusals.{verdictNumber, refused}
-use Rattle.gmp_settings.proofs.Laws.{refused-has-number}
+use Rattle.refusals.specs.Table.{refused}
+use Rattle.gmp_refusal.specs.Refusal.{verdictNumber}
+use Rattle.gmp_refusal.proofs.Laws.{refused-has-number}
 use Rattle.gmp_source.specs.Source.{newSource}
 use Rattle.gmp_source.proofs.new_source.Statement.{statement}
 use Rattle.gmp_source.proofs.new_source.Tie as tie

@@ -3,8 +3,8 @@ use mathlib.Core.Path.{_≡_, _∙_, sym, ap}
 use Prim.Native.Nat.{ℕ}
 use lib.ListN.{length}
 use borrow.Author.Needs.{needs}
-use Rattle.gmp_settings.specs.Refusals.{verdictNumber}
-use Rattle.gmp_settings.proofs.Laws.{refused-has-number}
+use Rattle.gmp_refusal.specs.Refusal.{verdictNumber}
+use Rattle.gmp_refusal.proofs.Laws.{refused-has-number}
 use Rattle.gmp_frame.specs.declared.Control.{Control}
 use Rattle.gmp_frame.specs.Frame.{frame, frameWritten}
 use Rattle.gmp_frame.proofs.Laws.{written-fits}

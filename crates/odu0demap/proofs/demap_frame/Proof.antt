@@ -4,6 +4,9 @@ use borrow.Author.Needs.{needs}
 use Rattle.odu0demap.proofs.demap_frame.Statement.{statement}
 use Rattle.odu0demap.proofs.demap_frame.Tie as tie
 
+opu0-requires : tie.Need-opu0-requires
+opu0-requires c κs = search needs
+
 count-call-requires : tie.Need-count-call-requires
 count-call-requires c κs = search needs
 
@@ -18,12 +21,13 @@ same-length c = search needs
 
 returns : tie.Need-returns
 returns c =
-    let start = c .before .before .before .before .before .before .before .before .before .before .before .before in
+    let start = c .before .before .before .before .before .before .before .before .before .before .before .before .before in
     let g = start .args in
     let k = c .before .before .before .before .before .before .before .count-call in
+    let promise = rw (c .before .before .before .before .before .before .before .before .before .before .opu0 .ensures) at (k .ensures) in
     absurd
     (not-refused (g .demapper) (g .frame .now) (g .out .now) (start .pre .0) (start .pre .1) (k .result .result) _ (k .result .tally)
-    (k .ensures) _ (c .enum-told .given .1))
+    promise _ (c .enum-told .given .1))
 
 standing-number-requires : tie.Need-standing-number-requires
 standing-number-requires c κs = search needs
@@ -33,16 +37,18 @@ same-length-2 c = search needs
 
 returns-2 : tie.Need-returns-2
 returns-2 c =
-    let start = c .before .before .before .before .before .before .before .before .before .before .before .before .before .before in
+    let start = c .before .before .before .before .before .before .before .before .before .before .before .before .before .before .before in
     let g = start .args in
     let k = c .before .before .before .before .before .before .before .before .before .count-call in
-    takes (g .demapper) (g .frame .now) (g .out .now) (start .pre .0) (start .pre .1) (k .result .result) _ (k .result .tally) (k .ensures) _
+    let promise = rw (c .before .before .before .before .before .before .before .before .before .before .before .before .opu0 .ensures) at (k .ensures) in
+    takes (g .demapper) (g .frame .now) (g .out .now) (start .pre .0) (start .pre .1) (k .result .result) _ (k .result .tally) promise _
     (c .before .before .answer .given .1) _ (c .standing-number .ensures)
 
 pub demap-frame-spec : {M : Type 1} → statement M
 demap-frame-spec =
     tie.close
     (tie.spec
+    opu0-requires
     count-call-requires
     enum-known-answer
     enum-told

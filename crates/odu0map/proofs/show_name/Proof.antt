@@ -1,7 +1,7 @@
 -- `odu0map::show_name` meets its contract. Assumes nothing.
 use native.Mathlib.Omega.{arith}
 use borrow.Author.Needs.{needs}
-use Rattle.odu0map.proofs.Laws.{named}
+use Rattle.gmp_refusal.proofs.Names.{named}
 use Rattle.odu0map.proofs.show_name.Statement.{statement}
 use Rattle.odu0map.proofs.show_name.Tie as tie
 
@@ -26,7 +26,7 @@ mul-end c = search needs
 array-read-end : tie.Need-array-read-end
 array-read-end c =
     let w = named (c .before .before .args .refusal) _ (c .before .refusal-number .ensures) in
-    omega (arith, w .from-one, w .to-nine)
+    omega (arith, w .from-one, w .to-last)
 
 add-end : tie.Need-add-end
 add-end c = record { fits = omega (arith, named (c .before .before .args .refusal) _ (c .before .refusal-number .ensures) .within) }

@@ -29,7 +29,7 @@ mul-end c = search needs
 array-read-end : tie.Need-array-read-end
 array-read-end c =
     let w = named (c .before .before .before .args .standing) _ (c .before .standing-number .ensures) in
-    omega (arith, w .from-one, w .to-six)
+    omega (arith, w .from-one, w .to-last)
 
 add-end : tie.Need-add-end
 add-end c =

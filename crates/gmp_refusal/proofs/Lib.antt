@@ -1,0 +1,3 @@
+-- In Laws and Names stands what other crates cite. Assumes nothing.
+pub mod Laws
+pub mod Names

@@ -1,0 +1,2 @@
+-- The refusals of the mapper's calls. Assumes nothing.
+pub mod Refusal

@@ -1,0 +1,2 @@
+-- Why a call is turned back. Assumes nothing.
+pub mod Table

@@ -1,0 +1,2 @@
+// The paper's table "Why a call is turned back", and no code: numbered conditions, of which the
+// lowest that applies is the answer. Each component has an enum of the refusals that it can answer.
