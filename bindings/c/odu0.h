@@ -1,7 +1,7 @@
 /*
  * The ODU0 generic mapper for C and C++: source, rate keeper and sink of a line card.
  *
- * Every function accepts every value of every number and buffers of every length, and ends with an answer or a refusal. A refused call changes no
+ * Every function accepts every value of every argument and buffers of every length, and ends with an answer or a refusal. A refused call changes no
  * buffer, no state and no tally. A buffer is a pointer and its length in bytes; a buffer of length 0 may be NULL. The buffers and the tally of one call
  * must not overlap. The library keeps no state of its own: the caller keeps what a call returns and passes it to the next.
  */
@@ -16,7 +16,8 @@ extern "C" {
 #endif
 
 /*
- * Why a call is turned back. A call that more than one of these applies to answers the lowest number. 0 says that the call was accepted.
+ * Why a call is turned back: the refusal's number, its name and when it applies. A call that more than one of these applies to answers the lowest
+ * number. 0 says that the call was accepted.
  */
 enum odu0_refusal {
     ODU0_ACCEPTED = 0,
@@ -31,7 +32,7 @@ enum odu0_refusal {
     ODU0_SPACE = 9    /* space: the output buffer is shorter than hi */
 };
 
-/* What a sink says of a frame. 0 stands where the call was refused. */
+/* What a sink says of a frame: the standing, by its name. 0 stands where the call was refused. */
 enum odu0_standing {
     ODU0_REFUSED = 0,
     ODU0_READ = 1,     /* the word holds the count itself */
@@ -52,13 +53,13 @@ typedef struct odu0_settings {
 /* A source's state: the present count, the multiframe number (0 to 255; a larger one is taken modulo 256) and the payload type. */
 typedef struct odu0_source {
     uint32_t count;
-    uint32_t number;
-    uint8_t kind;
+    uint32_t multiframe;
+    uint8_t payload_type;
 } odu0_source;
 
 /*
- * A sink's state: a known count or none, a remembered word (JC1 * 256 + JC2) or none. A flag of 0 says none, whatever the number beside it; any other
- * flag says that the number counts. Of a word above 65,535 the low 16 bits are used. A refused call returns the very numbers that it was given.
+ * A sink's state: a known count or none, a remembered word (JC1 * 256 + JC2) or none. A flag of 0 says none, whatever stands beside it; any other
+ * flag says that what stands beside it counts. Of a word above 65,535 the low 16 bits are used. A refused call returns the very state that it was given.
  */
 typedef struct odu0_sink {
     uint32_t known;
@@ -67,7 +68,7 @@ typedef struct odu0_sink {
     uint32_t word;
 } odu0_sink;
 
-/* One tally for the whole card: frames taken, BADCHECK frames and bytes handed out. Each stays at its largest number. */
+/* One tally for the whole card: frames taken, BADCHECK frames and bytes handed out. Each stays at its largest value. */
 typedef struct odu0_tally {
     uint32_t frames;
     uint32_t bad;
@@ -89,7 +90,7 @@ typedef struct odu0_keeper_reply {
 
 /*
  * The answer to a sink: the refusal's number, 0 if accepted; the standing, 0 if refused; whether it found a count, 1 or 0, and the count, 0 if none;
- * the number of bytes handed out; and the state to go on from.
+ * how many bytes it handed out; and the state to go on from.
  */
 typedef struct odu0_sink_reply {
     uint32_t refusal;
@@ -101,7 +102,7 @@ typedef struct odu0_sink_reply {
 } odu0_sink_reply;
 
 /* A new source with its first count, inside the window, and its payload type. Refusals 1, 2, 5; the state of a refusal is all zero. */
-odu0_source_reply odu0_source_new(odu0_settings settings, uint32_t first, uint8_t kind);
+odu0_source_reply odu0_source_new(odu0_settings settings, uint32_t first, uint8_t payload_type);
 
 /*
  * Writes the next frame, of 4 * k + 8 bytes, from exactly "present count" client bytes, and announces the next count in it.

@@ -1,7 +1,7 @@
 //! The ODU0 generic mapper for Rust: source, rate keeper and sink of a line card.
 //!
-//! Every call accepts every value of every number and buffers of every length, and ends with an answer or a [`Refusal`]. A refused call
-//! changes no buffer, no state and no tally. The library keeps no state of its own; a state is plain numbers in the caller's hands, and
+//! Every call accepts every value of every argument and buffers of every length, and ends with an answer or a [`Refusal`]. A refused call
+//! changes no buffer, no state and no tally. The library keeps no state of its own; a state is plain data in the caller's hands, and
 //! nothing here allocates. `examples/mapper.rs` shows a whole job.
 
 #![no_std]
@@ -70,8 +70,8 @@ impl Refusal {
         self as u32
     }
 
-    /// Its word.
-    pub fn word(self) -> &'static str {
+    /// Its name.
+    pub fn name(self) -> &'static str {
         match self {
             Refusal::Grid => "grid",
             Refusal::Window => "window",
@@ -86,7 +86,7 @@ impl Refusal {
     }
 }
 
-/// The number of a reply: 0 says that the call was accepted.
+/// A reply's refusal by its number: 0 says that the call was accepted.
 fn accepted(number: u32) -> Result<(), Refusal> {
     if number == 0 {
         return Ok(());
@@ -99,7 +99,7 @@ fn accepted(number: u32) -> Result<(), Refusal> {
 
 impl fmt::Display for Refusal {
     fn fmt(&self, f: &mut fmt::Formatter<'_>) -> fmt::Result {
-        write!(f, "{} (number {})", self.word(), self.number())
+        write!(f, "{} (number {})", self.name(), self.number())
     }
 }
 
@@ -151,16 +151,16 @@ pub struct Source {
     /// The present count: how many client bytes the next frame carries.
     pub count: u32,
     /// The multiframe number of the next frame, 0 to 255; a larger one is taken modulo 256.
-    pub number: u32,
+    pub multiframe: u32,
     /// The payload type.
-    pub kind: u8,
+    pub payload_type: u8,
 }
 
 impl Source {
     /// A new source with its first count, inside the window, and its payload type. Refusals: grid, window, state.
-    pub fn new(settings: Settings, first: u32, kind: u8) -> Result<Source, Refusal> {
-        // SAFETY: the function takes and returns plain numbers, and every value of each is allowed.
-        let reply = unsafe { ffi::odu0_source_new(settings, first, kind) };
+    pub fn new(settings: Settings, first: u32, payload_type: u8) -> Result<Source, Refusal> {
+        // SAFETY: the function takes and returns plain values, and every one of them is allowed.
+        let reply = unsafe { ffi::odu0_source_new(settings, first, payload_type) };
         accepted(reply.refusal)?;
         Ok(reply.state)
     }
@@ -195,14 +195,14 @@ pub struct Keeper {
 impl Keeper {
     /// A new keeper with the divisor q.
     pub fn new(q: u32) -> Keeper {
-        // SAFETY: the function takes and returns a number, and every value of it is allowed.
+        // SAFETY: the function takes and returns a plain value, and every one is allowed.
         let remainder = unsafe { ffi::odu0_keeper_new(q) };
         Keeper { remainder }
     }
 
     /// The next count at p / q client bytes a frame. Refusals: grid, window, divisor, rate, state.
     pub fn call(&mut self, settings: Settings, p: u32, q: u32) -> Result<u32, Refusal> {
-        // SAFETY: the function takes and returns plain numbers, and every value of each is allowed.
+        // SAFETY: the function takes and returns plain values, and every one of them is allowed.
         let reply = unsafe { ffi::odu0_keeper_call(settings, p, q, self.remainder) };
         self.remainder = reply.remainder;
         accepted(reply.refusal)?;
@@ -210,7 +210,7 @@ impl Keeper {
     }
 }
 
-/// One tally for the whole card, lent to each call of a sink. Each number stays at its largest.
+/// One tally for the whole card, lent to each call of a sink. Each field stays at its largest value.
 #[repr(C)]
 #[derive(Clone, Copy, Debug, Default, PartialEq, Eq)]
 pub struct Tally {
@@ -222,7 +222,7 @@ pub struct Tally {
     pub bytes: u32,
 }
 
-// The library is lent the tally as three 32-bit numbers, one after the other.
+// The library is lent the tally as three 32-bit fields, one after the other.
 const _: () = assert!(size_of::<Tally>() == 3 * size_of::<u32>() && align_of::<Tally>() == align_of::<u32>());
 
 /// What an accepted call of a sink answers.
@@ -246,7 +246,7 @@ pub struct Sink {
 impl Sink {
     /// A sink that knows nothing.
     pub fn new() -> Sink {
-        // SAFETY: the function takes nothing and returns plain numbers.
+        // SAFETY: the function takes nothing and returns plain values.
         Sink::from(unsafe { ffi::odu0_sink_new() })
     }
 

@@ -5,10 +5,10 @@
 mod both;
 #[path = "agree/calls.rs"]
 mod calls;
+#[path = "agree/fields.rs"]
+mod fields;
 #[path = "agree/given.rs"]
 mod given;
-#[path = "agree/numbers.rs"]
-mod numbers;
 #[path = "agree/refusals.rs"]
 mod refusals;
 #[path = "agree/runs.rs"]

@@ -14,10 +14,10 @@ fn control_bytes(settings: Settings) -> [usize; 3] {
 
 /// The control bytes that a source at the count "old" writes for the next count.
 fn announced(old: u32, next: u32) -> [u8; 3] {
-    let mut source = Source { count: old, number: 0, kind: 0 };
+    let mut source = Source { count: old, multiframe: 0, payload_type: 0 };
     let mut frame = vec![0xEE; 15240];
     source.call(OPU0, next, &vec![0x55; old as usize], &mut frame).unwrap();
-    assert_eq!(source, Source { count: next, number: 1, kind: 0 });
+    assert_eq!(source, Source { count: next, multiframe: 1, payload_type: 0 });
     control_bytes(OPU0).map(|at| frame[at])
 }
 
@@ -85,10 +85,11 @@ fn places_of_eight() {
         assert_eq!(payload, wanted);
         assert_eq!((frame[0], frame[4], frame[8], frame[12], frame[13]), (0, 0, 0, 0x07, 0));
 
-        let numbered = [0, 0, 1, 2, 0, 0, 3, 4, 0, 0, 5, 6, 0, 0, 7, 8];
+        // A frame in which each payload byte is its own place.
+        let by_place = [0, 0, 1, 2, 0, 0, 3, 4, 0, 0, 5, 6, 0, 0, 7, 8];
         let (mut sink, mut tally) = (Sink { count: Some(count), word: None }, Tally::default());
         let mut out = [0xEE; 9];
-        let taken = sink.call(EIGHT, &numbered, &mut out, &mut tally);
+        let taken = sink.call(EIGHT, &by_place, &mut out, &mut tally);
         assert_eq!(taken, Ok(Taken { standing: Standing::Read(0), handed: count }));
         assert_eq!(out[..places.len()], *places);
         assert!(out[places.len()..].iter().all(|byte| *byte == 0xEE));
@@ -112,7 +113,7 @@ fn the_largest_grid() {
     for (settings, refusal) in [(last, None), (above, Some(Refusal::Grid))] {
         let mut frame = vec![0; 4 * settings.k as usize + 8];
         let mut out = vec![0; 14410];
-        let mut source = Source { count: 14405, number: 0, kind: 0 };
+        let mut source = Source { count: 14405, multiframe: 0, payload_type: 0 };
         assert_eq!(Source::new(settings, 14405, 0).err(), refusal);
         assert_eq!(source.call(settings, 14405, &client, &mut frame).err(), refusal);
         assert_eq!(Keeper::new(1296).call(settings, 18671875, 1296).err(), refusal);
@@ -136,11 +137,11 @@ fn the_smallest_output_buffer() {
 fn a_frame_one_byte_short() {
     let (mut frame, mut out, mut tally) = (vec![0xEE; 15239], vec![0xEE; 14410], Tally::default());
     let refusal = Sink::new().call(OPU0, &frame, &mut out, &mut tally).unwrap_err();
-    assert_eq!((refusal, refusal.number(), refusal.word()), (Refusal::Frame, 8, "frame"));
+    assert_eq!((refusal, refusal.number(), refusal.name()), (Refusal::Frame, 8, "frame"));
     let mut source = Source::new(OPU0, 14407, 0x07).unwrap();
     let refusal = source.call(OPU0, 14407, &[0; 14407], &mut frame).unwrap_err();
     assert_eq!(refusal.number(), 8);
-    assert_eq!(source, Source { count: 14407, number: 0, kind: 0x07 });
+    assert_eq!(source, Source { count: 14407, multiframe: 0, payload_type: 0x07 });
     assert!(frame.iter().chain(&out).all(|byte| *byte == 0xEE));
     assert_eq!(tally, Tally::default());
 }
@@ -168,12 +169,12 @@ fn frames_of_sinkshow() {
     }
 }
 
-/// The paper's words for the refusals and the standings.
+/// The paper's names for the refusals and the standings.
 #[test]
-fn words_and_numbers() {
-    let words = ["grid", "window", "divisor", "rate", "state", "count", "client", "frame", "space"];
-    for ((refusal, word), number) in Refusal::ALL.into_iter().zip(words).zip(1..) {
-        assert_eq!((refusal.number(), refusal.word()), (number, word));
+fn names_and_numbers() {
+    let names = ["grid", "window", "divisor", "rate", "state", "count", "client", "frame", "space"];
+    for ((refusal, name), number) in Refusal::ALL.into_iter().zip(names).zip(1..) {
+        assert_eq!((refusal.number(), refusal.name()), (number, name));
     }
     let standings = [Standing::Read(1), Standing::Tracked(2), Standing::Paired(3)];
     assert_eq!(standings.map(Standing::name), ["READ", "TRACKED", "PAIRED"]);

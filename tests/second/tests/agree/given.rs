@@ -24,7 +24,7 @@ pub fn small_settings(random: &mut Random) -> Settings {
     Settings { k, lo, hi }
 }
 
-/// Settings of every kind, most of them accepted.
+/// Settings of every sort, most of them accepted.
 pub fn any_settings(random: &mut Random) -> Settings {
     let mut settings = small_settings(random);
     if random.once_in(10) {
@@ -94,7 +94,7 @@ pub fn word_after(random: &mut Random, settings: Settings, count: u32) -> u32 {
     word(count, next)
 }
 
-/// A sink's state of any kind: counts outside the window, words with II = DI, words above 16 bits.
+/// A sink's state of any sort: counts outside the window, words with II = DI, words above 16 bits.
 pub fn any_sink(random: &mut Random, settings: Settings) -> Sink {
     let count = any_count(random, settings);
     let inside = count_inside(random, settings);
@@ -109,32 +109,32 @@ pub fn any_sink(random: &mut Random, settings: Settings) -> Sink {
 }
 
 pub fn any_tally(random: &mut Random) -> Tally {
-    let mut number = || match random.below(4) {
+    let mut value = || match random.below(4) {
         0 => 0,
         1 => u32::MAX - random.from_to(0, 12),
         2 => u32::MAX,
         _ => random.u32(),
     };
-    Tally { frames: number(), bad: number(), bytes: number() }
+    Tally { frames: value(), bad: value(), bytes: value() }
 }
 
 /// Three control bytes that a sink in this state may well follow, or not.
 pub fn any_control(random: &mut Random, settings: Settings, state: &Sink) -> [u8; 3] {
-    let kind = random.below(16);
-    let old = match (kind, state) {
+    let choice = random.below(16);
+    let old = match (choice, state) {
         // A count which the remembered word may have announced.
         (0..=4, Sink { word: Some(before), .. }) if before & 1 != before >> 1 & 1 => random.of(&possible(*before)),
         (5..=9, Sink { count: Some(count), .. }) => *count,
         _ => count_inside(random, settings),
     };
-    let word = match kind {
+    let word = match choice {
         10 => random.u32() & 0xFFFF,
         11 => return random.of(&[[0x00; 3], [0xFF; 3], [0x4B, 0xB6, 0x38], [0x4B, 0x8A, 0x19]]),
         12 => return random.bytes(3).try_into().unwrap(),
         _ => word_after(random, settings, old),
     };
     let mut control = [(word >> 8) as u8, word as u8, check(word) as u8];
-    if kind == 13 {
+    if choice == 13 {
         let times = random.from_to(1, 5);
         flip(random, &mut control, times);
     }

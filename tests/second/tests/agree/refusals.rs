@@ -30,7 +30,7 @@ fn counts(settings: Settings) -> [u32; 5] {
     [settings.lo, settings.hi, settings.lo.wrapping_sub(1), settings.hi.wrapping_add(1), u32::MAX]
 }
 
-/// Each number of a call was met alone, each two of them together, and none at all.
+/// Each refusal of a call, by its number, was met alone, each two of them together, and none at all.
 fn all_met(numbers: &[u32], met: &BTreeSet<Vec<u32>>) {
     if !all_cases() {
         return;
@@ -87,7 +87,7 @@ fn refusals_of_the_source() {
                 for next in counts(settings) {
                     for client in lengths(u64::from(count)) {
                         for frame in lengths(settings.frame()) {
-                            let state = Source { count, number: case.random.u32(), kind: 7 };
+                            let state = Source { count, multiframe: case.random.u32(), payload_type: 7 };
                             let (client, frame) = (vec![0x11; client], vec![0x22; frame]);
                             let (mut new_state, mut new_frame) = (state.clone(), frame.clone());
                             let applying = state.refusals(settings, next, &client, &frame);

@@ -17,8 +17,8 @@ struct Written {
 /// A source run: so many accepted calls, with refused ones between them.
 fn source_run(case: &mut Case, settings: Settings, frames: usize) -> Vec<Written> {
     let first = count_inside(&mut case.random, settings);
-    let kind = case.random.u32() as u8;
-    let mut source = case.source_new(settings, first, kind).unwrap();
+    let payload_type = case.random.u32() as u8;
+    let mut source = case.source_new(settings, first, payload_type).unwrap();
     // Some runs stay at a count for long, some move with nearly every frame.
     let rest = case.random.of(&[0, 2, 8]);
     let mut written = Vec::new();
@@ -39,7 +39,7 @@ fn source_run(case: &mut Case, settings: Settings, frames: usize) -> Vec<Written
             assert!(refused.is_err());
         }
         case.source(settings, &mut source, next, &load, &mut frame).unwrap();
-        assert_eq!((source.count, source.number), (next, (n as u32 + 1) % 256));
+        assert_eq!((source.count, source.multiframe), (next, (n as u32 + 1) % 256));
         written.push(Written { frame: frame.clone(), load, old, next });
     }
     written
@@ -237,7 +237,7 @@ fn watch(name: &'static str, least: u32, claim: fn(&mut Case, Settings, usize)) 
         let settings = small_settings(&mut case.random);
         let frames = case.random.from_to(least, 60) as usize;
         claim(case, settings, frames);
-        if case.number % 10 == 0 {
+        if case.index % 10 == 0 {
             claim(case, Settings::OPU0, 6);
             let settings = large_settings(&mut case.random);
             claim(case, settings, 6);

@@ -32,13 +32,13 @@ fn demapped(input: &[u8]) -> Written {
     let (mut out, mut said) = (Vec::new(), String::new());
     let frames = input.chunks_exact(FRAME);
     let rest = frames.remainder().len();
-    for (number, frame) in (1..).zip(frames) {
+    for (frame_number, frame) in (1..).zip(frames) {
         let mut bytes = vec![0; OPU0.hi as usize];
         let (standing, handed) = sink.call(OPU0, frame, &mut bytes, &mut tally).unwrap();
         out.extend(&bytes[..handed as usize]);
         if before != Some(standing) {
             let count = standing.count().map_or("-".to_string(), |count| count.to_string());
-            said += &format!("frame {number}: {} {count}\n", standing.word());
+            said += &format!("frame {frame_number}: {} {count}\n", standing.name());
         }
         before = Some(standing);
     }
@@ -160,17 +160,17 @@ fn short_and_empty_input() {
 #[test]
 fn wrong_arguments() {
     let usage = "usage: odu0map [P Q], client bytes a frame as P / Q: Q from 1 to 65535, P / Q from 14405 to 14410\n";
-    let no_numbers = "odu0map: the arguments are not two decimal numbers of 32 bits\n";
+    let not_decimal = "odu0map: the arguments are not two decimal numbers of 32 bits\n";
     let long = "1".repeat(70);
     let cases: [(&[&str], &str); 12] = [
-        (&["14407"], no_numbers),
-        (&["14407", "1", "1"], no_numbers),
-        (&["14407", ""], no_numbers),
-        (&["x", "1"], no_numbers),
-        (&["-14407", "1"], no_numbers),
-        (&["14407", "1 "], no_numbers),
-        (&["4294967296", "298130"], no_numbers),
-        (&[&long, "1"], no_numbers),
+        (&["14407"], not_decimal),
+        (&["14407", "1", "1"], not_decimal),
+        (&["14407", ""], not_decimal),
+        (&["x", "1"], not_decimal),
+        (&["-14407", "1"], not_decimal),
+        (&["14407", "1 "], not_decimal),
+        (&["4294967296", "298130"], not_decimal),
+        (&[&long, "1"], not_decimal),
         (&["14407", "0"], "odu0map: refused, divisor (number 3)\n"),
         (&["4294967295", "65536"], "odu0map: refused, divisor (number 3)\n"),
         (&["14404", "1"], "odu0map: refused, rate (number 4)\n"),

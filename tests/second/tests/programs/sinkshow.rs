@@ -22,10 +22,10 @@ fn lines(input: &[u8]) -> String {
     let mut lines = String::new();
     let frames = input.chunks_exact(16);
     let rest = frames.remainder().len();
-    for (number, frame) in (1..).zip(frames) {
+    for (frame_number, frame) in (1..).zip(frames) {
         let (standing, handed) = sink.call(SETTINGS, frame, &mut out, &mut tally).unwrap();
         let count = standing.count().map_or("-".to_string(), |count| count.to_string());
-        lines += &format!("{number} {handed} {} {count}\n", standing.word());
+        lines += &format!("{frame_number} {handed} {} {count}\n", standing.name());
     }
     if rest > 0 {
         lines += &format!("LEFT {rest}\n");

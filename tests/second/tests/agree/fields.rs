@@ -1,5 +1,5 @@
-//! The numbers of the C interface themselves, where they say more than the Rust types: flags of every value, numbers beside a flag of 0,
-//! every number of a reply, and NULL.
+//! The fields of the C interface themselves, where they say more than the Rust types: flags of every value, what stands beside a flag of 0,
+//! every field of a reply, and NULL.
 
 use crate::both::{cases, settings_of, Lent};
 use crate::given::*;
@@ -8,8 +8,8 @@ use second::{Settings, Standing, Tally};
 use std::ptr::null_mut;
 
 #[test]
-fn numbers_of_a_sink_call() {
-    cases("numbers_of_a_sink_call", 60_000, |case| {
+fn fields_of_a_sink_call() {
+    cases("fields_of_a_sink_call", 60_000, |case| {
         let random = &mut case.random;
         let settings = any_settings(random);
         let mut state = any_sink(random, settings);
@@ -46,7 +46,7 @@ fn numbers_of_a_sink_call() {
 
         let (refusal, standing, count, handed) = match answer {
             Err(number) => (number, 0, None, 0),
-            Ok((standing, handed)) => (0, number(standing), standing.count(), handed),
+            Ok((standing, handed)) => (0, standing_number(standing), standing.count(), handed),
         };
         let said = || format!("{settings:?}, {given:?}, frame {frame:02X?}: {reply:?}");
         assert_eq!((reply.refusal, reply.standing), (refusal, standing), "{}", said());
@@ -56,8 +56,8 @@ fn numbers_of_a_sink_call() {
         let left = odu0::Sink::from(reply.state);
         assert_eq!((left.count, left.word), (state.count, state.word), "{}", said());
         if refusal != 0 {
-            let numbers = |sink: ffi::Sink| (sink.known, sink.count, sink.remembered, sink.word);
-            assert_eq!(numbers(reply.state), numbers(given), "a refused call returns the numbers given: {}", said());
+            let fields = |sink: ffi::Sink| (sink.known, sink.count, sink.remembered, sink.word);
+            assert_eq!(fields(reply.state), fields(given), "a refused call returns the state given: {}", said());
         }
         their_frame.must_be("frame", &frame);
         their_out.must_be("output", &out);
@@ -68,7 +68,7 @@ fn numbers_of_a_sink_call() {
 }
 
 /// A standing's number in odu0.h.
-fn number(standing: Standing) -> u32 {
+fn standing_number(standing: Standing) -> u32 {
     match standing {
         Standing::Read(_) => 1,
         Standing::Tracked(_) => 2,
@@ -105,13 +105,13 @@ fn a_buffer_of_length_0_may_be_null() {
 }
 
 #[test]
-fn numbers_of_calls_turned_back() {
+fn fields_of_calls_turned_back() {
     let settings = settings_of(Settings::OPU0);
-    // SAFETY: plain numbers.
+    // SAFETY: plain values.
     let reply = unsafe { ffi::odu0_source_new(settings, 1, 7) };
     assert_eq!(reply.refusal, 5);
-    assert_eq!(reply.state, odu0::Source { count: 0, number: 0, kind: 0 });
-    // SAFETY: plain numbers.
+    assert_eq!(reply.state, odu0::Source { count: 0, multiframe: 0, payload_type: 0 });
+    // SAFETY: plain values.
     let reply = unsafe { ffi::odu0_keeper_call(settings, 18671875, 1296, 1296) };
     assert_eq!((reply.refusal, reply.count, reply.remainder), (5, 0, 1296));
 }
