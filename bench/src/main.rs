@@ -63,7 +63,7 @@ struct Job {
 
 impl Job {
     fn new(k: u32, count: u32) -> Self {
-        let settings = Settings { k, lo: 0, hi: 4 * k };
+        let settings = Settings::new(k, 0, 4 * k);
         let client: Vec<u8> = (0..count).map(|i| (i * 7 + 1) as u8).collect();
         let mut frame = vec![0; 4 * k as usize + 8];
         let mut source = Source::new(settings, count, 7).unwrap();

@@ -20,7 +20,7 @@ static const char *name(uint32_t standing)
 
 int main(void)
 {
-    const odu0_settings opu0 = {3808, 14405, 14410};
+    const odu0_settings opu0 = ODU0_OPU0;
     odu0_tally tally = {0, 0, 0};
     odu0_sink sink = odu0_sink_new();
     odu0_sink_reply taken;

@@ -43,12 +43,18 @@ enum odu0_standing {
     ODU0_OUTSIDE = 6   /* the count that was reached is outside the window */
 };
 
-/* The settings: k payload columns in a row (1 to 3,808), and the window of counts lo to hi, hi at most 4 * k. OPU0 is {3808, 14405, 14410}. */
+/* The settings: k payload columns in a row (1 to 3,808), and the window of counts lo to hi, hi at most 4 * k. */
 typedef struct odu0_settings {
     uint32_t k;
     uint32_t lo;
     uint32_t hi;
 } odu0_settings;
+
+/* Initialises settings, so that only this line has to know their fields. */
+#define ODU0_SETTINGS(k, lo, hi) {(k), (lo), (hi)}
+
+/* Initialises the settings of OPU0: const odu0_settings opu0 = ODU0_OPU0; */
+#define ODU0_OPU0 ODU0_SETTINGS(3808, 14405, 14410)
 
 /* A source's state: the present count, the multiframe number (0 to 255; a larger one is taken modulo 256) and the payload type. */
 typedef struct odu0_source {

@@ -25,7 +25,12 @@ pub struct Settings {
 
 impl Settings {
     /// OPU0: 3,808 columns, counts 14,405 to 14,410.
-    pub const OPU0: Settings = Settings { k: 3808, lo: 14405, hi: 14410 };
+    pub const OPU0: Settings = Settings::new(3808, 14405, 14410);
+
+    /// Settings with k payload columns in a row and the window of counts lo to hi.
+    pub const fn new(k: u32, lo: u32, hi: u32) -> Settings {
+        Settings { k, lo, hi }
+    }
 }
 
 /// Why a call is turned back. A call that more than one of these applies to answers the one with the lowest number.

@@ -17,7 +17,11 @@ pub struct Settings {
 }
 
 impl Settings {
-    pub const OPU0: Settings = Settings { k: 3808, lo: 14405, hi: 14410 };
+    pub const OPU0: Settings = Settings::new(3808, 14405, 14410);
+
+    pub const fn new(k: u32, lo: u32, hi: u32) -> Settings {
+        Settings { k, lo, hi }
+    }
 
     /// S: how many payload bytes a frame has.
     pub fn payload(self) -> u64 {
@@ -402,7 +406,7 @@ mod tests {
         assert_eq!(standing(&mut sink, Settings::OPU0, first), Standing::Waiting);
         assert_eq!(standing(&mut sink, Settings::OPU0, then), Standing::Paired(14409));
 
-        let (wide, small) = (Settings { k: 3808, lo: 0, hi: 15232 }, Settings { k: 2, lo: 0, hi: 8 });
+        let (wide, small) = (Settings::new(3808, 0, 15232), Settings::new(2, 0, 8));
         let mut sink = Sink { count: Some(2932), word: None };
         assert_eq!(standing(&mut sink, wide, first), Standing::Tracked(2934));
         assert_eq!(standing(&mut sink, wide, then), Standing::Paired(14409));

@@ -3,8 +3,8 @@
 use odu0::{Keeper, Refusal, Settings, Sink, Source, Standing, Taken, Tally};
 
 const OPU0: Settings = Settings::OPU0;
-const WIDE: Settings = Settings { k: 3808, lo: 0, hi: 15232 };
-const EIGHT: Settings = Settings { k: 2, lo: 0, hi: 8 };
+const WIDE: Settings = Settings::new(3808, 0, 15232);
+const EIGHT: Settings = Settings::new(2, 0, 8);
 
 /// Where JC1, JC2 and JC3 stand.
 fn control_bytes(settings: Settings) -> [usize; 3] {
@@ -107,7 +107,7 @@ fn rate_of_1000base_x() {
 
 #[test]
 fn the_largest_grid() {
-    let (last, above) = (Settings { k: 3808, ..OPU0 }, Settings { k: 3809, ..OPU0 });
+    let [last, above] = [3808, 3809].map(|k| Settings::new(k, OPU0.lo, OPU0.hi));
     let client = vec![0; 14405];
     // The frames have the right length for either grid.
     for (settings, refusal) in [(last, None), (above, Some(Refusal::Grid))] {

@@ -204,7 +204,7 @@ impl Case {
 }
 
 pub fn settings_of(settings: Settings) -> odu0::Settings {
-    odu0::Settings { k: settings.k, lo: settings.lo, hi: settings.hi }
+    odu0::Settings::new(settings.k, settings.lo, settings.hi)
 }
 
 fn back(state: odu0::Source) -> Source {

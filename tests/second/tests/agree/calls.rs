@@ -85,7 +85,7 @@ fn buffers_of_every_length() {
     cases("buffers_of_every_length", 1, |case| {
         for k in 1..=4 {
             for (lo, hi) in [(0, 4 * k), (2, 3), (0, 0)] {
-                let settings = Settings { k, lo, hi };
+                let settings = Settings::new(k, lo, hi);
                 for frame in 0..4 * k as usize + 20 {
                     for other in 0..4 * k as usize + 6 {
                         lend(case, settings, frame, other);
@@ -116,7 +116,7 @@ fn lend(case: &mut Case, settings: Settings, frame: usize, other: usize) {
 #[test]
 fn tallies_near_the_largest() {
     cases("tallies_near_the_largest", 1, |case| {
-        let settings = Settings { k: 2, lo: 0, hi: 8 };
+        let settings = Settings::new(2, 0, 8);
         for left in (0..=10).chain([u32::MAX]) {
             for count in 0..=8 {
                 for control in [[0; 3], [0xFF; 3]] {

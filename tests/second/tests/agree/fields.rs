@@ -81,7 +81,7 @@ fn standing_number(standing: Standing) -> u32 {
 
 #[test]
 fn a_buffer_of_length_0_may_be_null() {
-    let settings = odu0::Settings { k: 1, lo: 0, hi: 0 };
+    let settings = odu0::Settings::new(1, 0, 0);
     let source = odu0::Source::new(settings, 0, 7).unwrap();
     let sink = ffi::Sink::from(&odu0::Sink::new());
     let (mut tally, mut frame) = (odu0::Tally::default(), [9; 12]);
@@ -96,7 +96,7 @@ fn a_buffer_of_length_0_may_be_null() {
         assert_eq!((reply.refusal, reply.standing, reply.found, reply.count), (0, 1, 1, 0));
         let reply = ffi::odu0_sink_call(settings, sink, null_mut(), 0, null_mut(), 0, &mut tally);
         assert_eq!(reply.refusal, 8);
-        let settings = odu0::Settings { hi: 1, ..settings };
+        let settings = odu0::Settings::new(1, 0, 1);
         let reply = ffi::odu0_sink_call(settings, sink, at, 12, null_mut(), 0, &mut tally);
         assert_eq!(reply.refusal, 9);
     }

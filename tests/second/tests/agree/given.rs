@@ -3,7 +3,7 @@
 use second::{check, pattern, possible, word, Random, Settings, Sink, Tally};
 
 /// The widest window.
-pub const WIDE: Settings = Settings { k: 3808, lo: 0, hi: 15232 };
+pub const WIDE: Settings = Settings::new(3808, 0, 15232);
 
 /// Changes that have a pattern.
 const CHANGES: [i64; 5] = [0, 1, -1, 2, -2];
@@ -21,7 +21,7 @@ pub fn small_settings(random: &mut Random) -> Settings {
         4 => random.of(&[(0, 0), (s, s)]),
         _ => (one.min(two), one.max(two)),
     };
-    Settings { k, lo, hi }
+    Settings::new(k, lo, hi)
 }
 
 /// Settings of every sort, most of them accepted.
@@ -34,7 +34,7 @@ pub fn any_settings(random: &mut Random) -> Settings {
         settings.k = random.of(&grids);
     }
     if random.once_in(10) {
-        let Settings { lo, hi, .. } = settings;
+        let (lo, hi) = (settings.lo, settings.hi);
         let s = settings.k.wrapping_mul(4);
         let odd = (random.u32(), random.u32());
         let windows = [
@@ -191,8 +191,8 @@ pub fn large_settings(random: &mut Random) -> Settings {
     let k = if random.once_in(2) { 3808 } else { random.from_to(1400, 3807) };
     let (one, two) = (random.from_to(0, 4 * k), random.from_to(0, 4 * k));
     match random.below(3) {
-        0 => Settings { k, lo: one.min(two), hi: one.max(two) },
-        _ => Settings { k, lo: 0, hi: 4 * k },
+        0 => Settings::new(k, one.min(two), one.max(two)),
+        _ => Settings::new(k, 0, 4 * k),
     }
 }
 

@@ -12,7 +12,7 @@ fn settings_for_refusals() -> Vec<Settings> {
         let s = 4u32.wrapping_mul(k);
         let more = s.wrapping_add(1);
         for (lo, hi) in [(0, s), (s, s), (0, 0), (1, 3), (1, 0), (0, more), (more, s), (more, more), (0, u32::MAX)] {
-            all.push(Settings { k, lo, hi });
+            all.push(Settings::new(k, lo, hi));
         }
     }
     all

@@ -4,7 +4,7 @@ use crate::feed::{pieces, run};
 use second::{Random, Settings, Sink, Tally};
 use std::time::Duration;
 
-const SETTINGS: Settings = Settings { k: 2, lo: 0, hi: 8 };
+const SETTINGS: Settings = Settings::new(2, 0, 8);
 
 const FIRST: [u8; 16] = [0, 0xAA, 0, 0, 0, 0xA6, 0x11, 0, 0, 0x0A, 0, 0x22, 0x07, 0, 0, 0x33];
 const THEN: [u8; 16] = [0, 0, 0, 0x44, 0, 0x10, 0, 0x55, 0, 0xD0, 0, 0x66, 0, 0, 0, 0x77];
