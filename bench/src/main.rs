@@ -12,13 +12,19 @@ extern "C" {
     fn runs_take(frame: *const u8, out: *mut u8, k: usize, c: usize);
 }
 
-/// The runs of client bytes of a frame: for each row its runs' lengths, by one division for the frame.
+/// Calls `run` with each run of client bytes of a frame: where it begins, its length, and whether a stuffing byte follows. The lengths
+/// come by one division for the frame.
 fn each_run(k: usize, c: usize, mut run: impl FnMut(usize, usize, bool)) {
     let d = 4 * k - c;
-    let (q, r) = if d == 0 { (4 * k, 0) } else { (c / d, c % d) };
-    let (mut m, mut e) = (if d == 0 { 4 * k } else { 0 }, 0);
+    let start = |row| row * (k + 2) + 2;
+    // Without a stuffing byte each row is one run.
+    if d == 0 {
+        (0..4).for_each(|row| run(start(row), k, false));
+        return;
+    }
+    let (q, r, mut m, mut e) = (c / d, c % d, 0, 0);
     for row in 0..4 {
-        let start = row * (k + 2) + 2;
+        let start = start(row);
         let mut i = 0;
         while i + m < k {
             run(start + i, m, true);
