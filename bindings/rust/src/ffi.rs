@@ -1,4 +1,5 @@
-//! The C interface as bindings/c/odu0.h gives it: the functions, and those of their types that Rust says in another way.
+//! The C interface as bindings/c/odu0.h gives it: the functions, and those of their types that Rust
+//! says in another way.
 
 #![allow(missing_docs)]
 

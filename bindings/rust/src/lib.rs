@@ -1,8 +1,9 @@
 //! The ODU0 generic mapper for Rust: source, rate keeper and sink of a line card.
 //!
-//! Every call accepts every value of every argument and buffers of every length, and ends with an answer or a [`Refusal`]. A refused call
-//! changes no buffer, no state and no tally. The library keeps no state of its own; a state is plain data in the caller's hands, and
-//! nothing here allocates. `examples/mapper.rs` shows a whole job.
+//! Every call accepts every value of every argument and buffers of every length, and ends with an
+//! answer or a [`Refusal`]. A refused call changes no buffer, no state and no tally. The library
+//! keeps no state of its own; a state is plain data in the caller's hands, and nothing here
+//! allocates. `examples/mapper.rs` shows a whole job.
 
 #![no_std]
 #![warn(missing_docs)]
@@ -33,7 +34,8 @@ impl Settings {
     }
 }
 
-/// Why a call is turned back. A call that more than one of these applies to answers the one with the lowest number.
+/// Why a call is turned back. A call that more than one of these applies to answers the one with
+/// the lowest number.
 #[derive(Clone, Copy, Debug, PartialEq, Eq)]
 pub enum Refusal {
     /// 1: k is 0 or above 3,808.
@@ -143,7 +145,9 @@ impl Standing {
     /// The count that it found, if it found one.
     pub fn count(self) -> Option<u32> {
         match self {
-            Standing::Read(count) | Standing::Tracked(count) | Standing::Paired(count) => Some(count),
+            Standing::Read(count) | Standing::Tracked(count) | Standing::Paired(count) => {
+                Some(count)
+            }
             Standing::BadCheck | Standing::Waiting | Standing::Outside => None,
         }
     }
@@ -162,7 +166,8 @@ pub struct Source {
 }
 
 impl Source {
-    /// A new source with its first count, inside the window, and its payload type. Refusals: grid, window, state.
+    /// A new source with its first count, inside the window, and its payload type. Refusals: grid,
+    /// window, state.
     pub fn new(settings: Settings, first: u32, payload_type: u8) -> Result<Source, Refusal> {
         // SAFETY: the function takes and returns plain values, and every one of them is allowed.
         let reply = unsafe { ffi::odu0_source_new(settings, first, payload_type) };
@@ -170,10 +175,17 @@ impl Source {
         Ok(reply.state)
     }
 
-    /// Writes the next frame, of 4 × k + 8 bytes, from exactly "present count" client bytes, and announces the next count in it.
-    /// Refusals: grid, window, state, count, client, frame.
-    pub fn call(&mut self, settings: Settings, next: u32, client: &[u8], frame: &mut [u8]) -> Result<(), Refusal> {
-        // SAFETY: each pointer is that of a live slice and stands before its length; `frame` is lent for writing, so they do not overlap.
+    /// Writes the next frame, of 4 × k + 8 bytes, from exactly "present count" client bytes, and
+    /// announces the next count in it. Refusals: grid, window, state, count, client, frame.
+    pub fn call(
+        &mut self,
+        settings: Settings,
+        next: u32,
+        client: &[u8],
+        frame: &mut [u8],
+    ) -> Result<(), Refusal> {
+        // SAFETY: each pointer is that of a live slice and stands before its length; `frame` is
+        // lent for writing, so they do not overlap.
         let reply = unsafe {
             ffi::odu0_source_call(
                 settings,
@@ -215,7 +227,7 @@ impl Keeper {
     }
 }
 
-/// One tally for the whole card, lent to each call of a sink. Each field stays at its largest value.
+/// One tally for the whole card, lent to each call of a sink. A field stays at its largest value.
 #[repr(C)]
 #[derive(Clone, Copy, Debug, Default, PartialEq, Eq)]
 pub struct Tally {
@@ -228,7 +240,8 @@ pub struct Tally {
 }
 
 // The library is lent the tally as three 32-bit fields, one after the other.
-const _: () = assert!(size_of::<Tally>() == 3 * size_of::<u32>() && align_of::<Tally>() == align_of::<u32>());
+const _: () =
+    assert!(size_of::<Tally>() == 3 * size_of::<u32>() && align_of::<Tally>() == align_of::<u32>());
 
 /// What an accepted call of a sink answers.
 #[derive(Clone, Copy, Debug, PartialEq, Eq)]
@@ -255,8 +268,9 @@ impl Sink {
         Sink::from(unsafe { ffi::odu0_sink_new() })
     }
 
-    /// Takes a frame: hands out, to the start of `out`, the client bytes at the places of the count known before, leaves the bytes
-    /// after them as they were, follows the control word, and counts the frame in the tally. Refusals: grid, window, frame, space.
+    /// Takes a frame: hands out, to the start of `out`, the client bytes at the places of the count
+    /// known before, leaves the bytes after them as they were, follows the control word, and counts
+    /// the frame in the tally. Refusals: grid, window, frame, space.
     pub fn call(
         &mut self,
         settings: Settings,
@@ -264,8 +278,9 @@ impl Sink {
         out: &mut [u8],
         tally: &mut Tally,
     ) -> Result<Taken, Refusal> {
-        // SAFETY: each pointer is that of a live slice and stands before its length, and `tally` has the layout of odu0_tally (above);
-        // `out` and `tally` are lent for writing, so none of them overlap.
+        // SAFETY: each pointer is that of a live slice and stands before its length, and `tally`
+        // has the layout of odu0_tally (above); `out` and `tally` are lent for writing, so none of
+        // them overlap.
         let reply = unsafe {
             ffi::odu0_sink_call(
                 settings,
@@ -300,7 +315,10 @@ impl Default for Sink {
 
 impl From<ffi::Sink> for Sink {
     fn from(state: ffi::Sink) -> Sink {
-        Sink { count: (state.known != 0).then_some(state.count), word: (state.remembered != 0).then_some(state.word) }
+        Sink {
+            count: (state.known != 0).then_some(state.count),
+            word: (state.remembered != 0).then_some(state.word),
+        }
     }
 }
 

@@ -1,8 +1,10 @@
 //! A second implementation of the ODU0 generic mapper, and a small generator of random numbers.
 //!
-//! It is written from the scope paper, in the paper's own order and with no thought of speed: every place is tested by n × C mod S < C, the
-//! check is a long division bit by bit, and the sink is the paper's rules 1 to 3 one after the other. Where the paper is silent it goes by
-//! odu0.h: a multiframe number above 255 is taken modulo 256. Of a remembered word only the 16 bits that a word has are looked at.
+//! It is written from the scope paper, in the paper's own order and with no thought of speed: every
+//! place is tested by n × C mod S < C, the check is a long division bit by bit, and the sink is the
+//! paper's rules 1 to 3 one after the other. Where the paper is silent it goes by odu0.h: a
+//! multiframe number above 255 is taken modulo 256. Of a remembered word only the 16 bits that a
+//! word has are looked at.
 
 mod random;
 
@@ -159,7 +161,11 @@ pub struct Source {
 impl Source {
     /// Every refusal of a new source, by its number.
     pub fn new_refusals(settings: Settings, first: u32) -> Vec<u32> {
-        applying([(1, settings.grid_is_wrong()), (2, settings.window_is_wrong()), (5, !settings.holds(first))])
+        applying([
+            (1, settings.grid_is_wrong()),
+            (2, settings.window_is_wrong()),
+            (5, !settings.holds(first)),
+        ])
     }
 
     pub fn new(settings: Settings, first: u32, payload_type: u8) -> Result<Source, u32> {
@@ -179,7 +185,13 @@ impl Source {
         ])
     }
 
-    pub fn call(&mut self, settings: Settings, next: u32, client: &[u8], frame: &mut [u8]) -> Result<(), u32> {
+    pub fn call(
+        &mut self,
+        settings: Settings,
+        next: u32,
+        client: &[u8],
+        frame: &mut [u8],
+    ) -> Result<(), u32> {
         turn_back(self.refusals(settings, next, client, frame))?;
         frame.fill(0);
         let row = settings.k as usize + 2;
@@ -215,7 +227,8 @@ impl Keeper {
         Keeper { remainder: 0 }
     }
 
-    /// Every refusal of a call, by its number. Nothing is divided by zero: refusal 3 is below refusal 4.
+    /// Every refusal of a call, by its number. Nothing is divided by zero: refusal 3 is below
+    /// refusal 4.
     pub fn refusals(&self, settings: Settings, p: u32, q: u32) -> Vec<u32> {
         let (whole, most) = (p.checked_div(q), u64::from(settings.hi) * u64::from(q));
         applying([
@@ -268,7 +281,9 @@ impl Standing {
     /// The count that it found.
     pub fn count(self) -> Option<u32> {
         match self {
-            Standing::Read(count) | Standing::Tracked(count) | Standing::Paired(count) => Some(count),
+            Standing::Read(count) | Standing::Tracked(count) | Standing::Paired(count) => {
+                Some(count)
+            }
             _ => None,
         }
     }
@@ -445,7 +460,8 @@ mod tests {
         assert_eq!(counts, [14407, 14407, 14407, 14408]);
     }
 
-    /// The paper says "the one which this word continues": no word continues both possible counts of another.
+    /// The paper says "the one which this word continues": no word continues both possible counts
+    /// of another.
     #[test]
     fn a_pair_of_words_leads_to_one_count() {
         let mut both_end_in_11 = 0;
@@ -457,7 +473,8 @@ mod tests {
             assert_ne!(one, two);
             both_end_in_11 += u32::from(one & 3 == 3 && two & 3 == 3);
             for sign in [1, 2] {
-                let words = |count: u32| changes(sign).map(|change| (count ^ pattern(change)) << 2 | sign);
+                let words =
+                    |count: u32| changes(sign).map(|change| (count ^ pattern(change)) << 2 | sign);
                 for word in words(one) {
                     assert!(continued(one, word).is_some());
                     assert!(!words(two).contains(&word), "{before:04X} {word:04X}");

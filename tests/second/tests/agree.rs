@@ -1,5 +1,6 @@
-//! The library against the second implementation: the answer, the state, every byte of every buffer and the tally of each call, and demand 3
-//! watched on whole runs. `agree/both.rs` says how to run one case again.
+//! The library against the second implementation: the answer, the state, every byte of every buffer
+//! and the tally of each call, and demand 3 watched on whole runs. `agree/both.rs` says how to run
+//! one case again.
 
 #[path = "agree/both.rs"]
 mod both;

@@ -1,4 +1,5 @@
-//! The worked frames of the scope paper, run against the library: the starred ones, which are proved as well, and the others.
+//! The worked frames of the scope paper, run against the library: the starred ones, which are
+//! proved as well, and the others.
 
 use odu0::{Keeper, Refusal, Settings, Sink, Source, Standing, Taken, Tally};
 
@@ -68,7 +69,8 @@ fn zeros_pass_the_check_and_ones_do_not() {
     }
 }
 
-/// The places of a count among eight payload bytes, by what a source writes there and by what a sink takes from there.
+/// The places of a count among eight payload bytes, by what a source writes there and by what a
+/// sink takes from there.
 #[test]
 fn places_of_eight() {
     for (count, places) in [(3, &[3, 6, 8][..]), (0, &[]), (8, &[1, 2, 3, 4, 5, 6, 7, 8])] {
@@ -117,7 +119,10 @@ fn the_largest_grid() {
         assert_eq!(Source::new(settings, 14405, 0).err(), refusal);
         assert_eq!(source.call(settings, 14405, &client, &mut frame).err(), refusal);
         assert_eq!(Keeper::new(1296).call(settings, 18671875, 1296).err(), refusal);
-        assert_eq!(Sink::new().call(settings, &frame, &mut out, &mut Tally::default()).err(), refusal);
+        assert_eq!(
+            Sink::new().call(settings, &frame, &mut out, &mut Tally::default()).err(),
+            refusal
+        );
     }
 }
 
@@ -149,8 +154,8 @@ fn a_frame_one_byte_short() {
 /// The frames of the program sinkshow.
 #[test]
 fn frames_of_sinkshow() {
-    let first = [0x00, 0xAA, 0x00, 0x00, 0x00, 0xA6, 0x11, 0x00, 0x00, 0x0A, 0x00, 0x22, 0x07, 0x00, 0x00, 0x33];
-    let second = [0x00, 0x00, 0x00, 0x44, 0x00, 0x10, 0x00, 0x55, 0x00, 0xD0, 0x00, 0x66, 0x00, 0x00, 0x00, 0x77];
+    let first = [0, 0xAA, 0, 0, 0, 0xA6, 0x11, 0, 0, 0x0A, 0, 0x22, 0x07, 0, 0, 0x33];
+    let second = [0, 0, 0, 0x44, 0, 0x10, 0, 0x55, 0, 0xD0, 0, 0x66, 0, 0, 0, 0x77];
     let (mut sink, mut tally, mut out) = (Sink::new(), Tally::default(), [0; 8]);
     let mut call = |frame: &[u8]| sink.call(EIGHT, frame, &mut out, &mut tally);
     assert_eq!(call(&first), Ok(Taken { standing: Standing::Waiting, handed: 0 }));

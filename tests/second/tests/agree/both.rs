@@ -1,8 +1,8 @@
-//! Makes each call twice, through the library and through the second implementation, and compares the answer, the state, every byte of
-//! every buffer and the tally.
+//! Makes each call twice, through the library and through the second implementation, and compares
+//! the answer, the state, every byte of every buffer and the tally.
 //!
-//! A case draws its random numbers from the seed, the test's name and its own index, so it can be run again alone. SEED sets another seed,
-//! CASE runs one case only, RUNS multiplies how many there are.
+//! A case draws its random numbers from the seed, the test's name and its own index, so it can be
+//! run again alone. SEED sets another seed, CASE runs one case only, RUNS multiplies the cases.
 
 use second::{Keeper, Random, Settings, Sink, Source, Standing, Tally};
 use std::fmt;
@@ -53,7 +53,8 @@ pub fn cases(test: &'static str, cases: u64, mut run: impl FnMut(&mut Case)) -> 
         None => 0..cases * from_environment("RUNS").unwrap_or(1),
     };
     let began = Instant::now();
-    let mut case = Case { random: Random::new(0), index: 0, done: Done::default(), test, seed, last: None };
+    let mut case =
+        Case { random: Random::new(0), index: 0, done: Done::default(), test, seed, last: None };
     for index in indices.clone() {
         case.index = index;
         case.random = random_of(seed, test, index);
@@ -64,7 +65,8 @@ pub fn cases(test: &'static str, cases: u64, mut run: impl FnMut(&mut Case)) -> 
     // Past the test harness, which would swallow it.
     let _ = writeln!(
         std::io::stderr(),
-        "{test}: seed {seed}, {} cases; frames on small grids {}, on large ones {}, on OPU0 {}; other calls {}; refused {refused}; {:.1} s",
+        "{test}: seed {seed}, {} cases; frames on small grids {}, on large ones {}, on OPU0 {}; \
+         other calls {}; refused {refused}; {:.1} s",
         indices.end - indices.start,
         done.small,
         done.large,
@@ -109,7 +111,12 @@ impl Drop for Case {
 }
 
 impl Case {
-    pub fn source_new(&mut self, settings: Settings, first: u32, payload_type: u8) -> Result<Source, u32> {
+    pub fn source_new(
+        &mut self,
+        settings: Settings,
+        first: u32,
+        payload_type: u8,
+    ) -> Result<Source, u32> {
         self.last = Some(Call::NewSource(settings, first, payload_type));
         let theirs = odu0::Source::new(settings_of(settings), first, payload_type);
         let ours = Source::new(settings, first, payload_type);
@@ -127,10 +134,15 @@ impl Case {
         client: &[u8],
         frame: &mut [u8],
     ) -> Result<(), u32> {
-        self.last = Some(Call::Source(settings, state.clone(), next, client.to_vec(), frame.to_vec()));
+        self.last =
+            Some(Call::Source(settings, state.clone(), next, client.to_vec(), frame.to_vec()));
         let mut their_client = Lent::new(self.index, client);
         let mut their_frame = Lent::new(self.index, frame);
-        let mut their_state = odu0::Source { count: state.count, multiframe: state.multiframe, payload_type: state.payload_type };
+        let mut their_state = odu0::Source {
+            count: state.count,
+            multiframe: state.multiframe,
+            payload_type: state.payload_type,
+        };
         let theirs = their_state
             .call(settings_of(settings), next, their_client.lent(), their_frame.lent())
             .map_err(odu0::Refusal::number);
@@ -143,7 +155,13 @@ impl Case {
         ours
     }
 
-    pub fn keeper(&mut self, settings: Settings, state: &mut Keeper, p: u32, q: u32) -> Result<u32, u32> {
+    pub fn keeper(
+        &mut self,
+        settings: Settings,
+        state: &mut Keeper,
+        p: u32,
+        q: u32,
+    ) -> Result<u32, u32> {
         self.last = Some(Call::Keeper(settings, state.clone(), p, q));
         let mut their_state = odu0::Keeper { remainder: state.remainder };
         let theirs = their_state.call(settings_of(settings), p, q).map_err(odu0::Refusal::number);
@@ -166,7 +184,8 @@ impl Case {
         let mut their_frame = Lent::new(self.index, frame);
         let mut their_out = Lent::new(self.index, out);
         let mut their_state = odu0::Sink { count: state.count, word: state.word };
-        let mut their_tally = odu0::Tally { frames: tally.frames, bad: tally.bad, bytes: tally.bytes };
+        let mut their_tally =
+            odu0::Tally { frames: tally.frames, bad: tally.bad, bytes: tally.bytes };
         let theirs = their_state
             .call(settings_of(settings), their_frame.lent(), their_out.lent(), &mut their_tally)
             .map(|taken| (standing_of(taken.standing), taken.handed))
@@ -175,7 +194,8 @@ impl Case {
         assert_eq!(theirs, ours, "the answer: library, second");
         let their_state = Sink { count: their_state.count, word: their_state.word };
         assert_eq!(their_state, *state, "the state: library, second");
-        let their_tally = Tally { frames: their_tally.frames, bad: their_tally.bad, bytes: their_tally.bytes };
+        let their_tally =
+            Tally { frames: their_tally.frames, bad: their_tally.bad, bytes: their_tally.bytes };
         assert_eq!(their_tally, *tally, "the tally: library, second");
         their_frame.must_be("frame", frame);
         their_out.must_be("output", out);
@@ -274,7 +294,10 @@ impl fmt::Display for Call {
     fn fmt(&self, f: &mut fmt::Formatter<'_>) -> fmt::Result {
         match self {
             Call::NewSource(settings, first, payload_type) => {
-                write!(f, "  a new source; {settings:?}; first {first}, payload type {payload_type}")
+                write!(
+                    f,
+                    "  a new source; {settings:?}; first {first}, payload type {payload_type}"
+                )
             }
             Call::Source(settings, state, next, client, frame) => {
                 writeln!(f, "  a source call; {settings:?}; {state:?}; next {next}")?;

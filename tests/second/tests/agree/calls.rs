@@ -22,7 +22,11 @@ fn random_sink_calls() {
     });
     if all_cases() {
         assert!(done.standings.iter().all(|times| *times > 1000), "{:?}", done.standings);
-        assert!([1, 2, 8, 9].iter().all(|number| done.refused[*number] > 1000), "{:?}", done.refused);
+        assert!(
+            [1, 2, 8, 9].iter().all(|number| done.refused[*number] > 1000),
+            "{:?}",
+            done.refused
+        );
     }
 }
 
@@ -50,11 +54,16 @@ fn random_source_calls() {
         let length = any_length(random, settings.frame());
         let mut frame = random.bytes(length);
         let _ = case.source(settings, &mut state, next, &client, &mut frame);
-        let (first, payload_type) = (any_count(&mut case.random, settings), case.random.u32() as u8);
+        let (first, payload_type) =
+            (any_count(&mut case.random, settings), case.random.u32() as u8);
         let _ = case.source_new(settings, first, payload_type);
     });
     if all_cases() {
-        assert!([1, 2, 5, 6, 7, 8].iter().all(|number| done.refused[*number] > 1000), "{:?}", done.refused);
+        assert!(
+            [1, 2, 5, 6, 7, 8].iter().all(|number| done.refused[*number] > 1000),
+            "{:?}",
+            done.refused
+        );
     }
 }
 
@@ -75,7 +84,11 @@ fn hostile_states_on_large_grids() {
     });
     if all_cases() {
         let [_, tracked, paired, _, waiting, outside] = done.standings;
-        assert!([tracked, paired, waiting, outside].iter().all(|times| *times > 1000), "{:?}", done.standings);
+        assert!(
+            [tracked, paired, waiting, outside].iter().all(|times| *times > 1000),
+            "{:?}",
+            done.standings
+        );
     }
 }
 

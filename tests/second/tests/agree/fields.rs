@@ -1,5 +1,5 @@
-//! The fields of the C interface themselves, where they say more than the Rust types: flags of every value, what stands beside a flag of 0,
-//! every field of a reply, and NULL.
+//! The fields of the C interface themselves, where they say more than the Rust types: flags of
+//! every value, what stands beside a flag of 0, every field of a reply, and NULL.
 
 use crate::both::{cases, settings_of, Lent};
 use crate::given::*;
@@ -33,14 +33,23 @@ fn fields_of_a_sink_call() {
         let mut out = random.bytes(out);
         let mut tally = any_tally(random);
 
-        let mut their_tally = odu0::Tally { frames: tally.frames, bad: tally.bad, bytes: tally.bytes };
+        let mut their_tally =
+            odu0::Tally { frames: tally.frames, bad: tally.bad, bytes: tally.bytes };
         let (mut their_frame, mut their_out) = (Lent::new(0, &frame), Lent::new(0, &out));
-        // SAFETY: the pointers are those of live buffers that do not overlap, each before its length.
+        // SAFETY: each pointer is that of a live buffer, before its length, and none overlap.
         let reply = unsafe {
             let (frame, out) = (their_frame.lent(), their_out.lent());
             let (frame, frame_len) = (frame.as_ptr(), frame.len());
             let (out, out_len) = (out.as_mut_ptr(), out.len());
-            ffi::odu0_sink_call(settings_of(settings), given, frame, frame_len, out, out_len, &mut their_tally)
+            ffi::odu0_sink_call(
+                settings_of(settings),
+                given,
+                frame,
+                frame_len,
+                out,
+                out_len,
+                &mut their_tally,
+            )
         };
         let answer = state.call(settings, &frame, &mut out, &mut tally);
 
@@ -57,11 +66,17 @@ fn fields_of_a_sink_call() {
         assert_eq!((left.count, left.word), (state.count, state.word), "{}", said());
         if refusal != 0 {
             let fields = |sink: ffi::Sink| (sink.known, sink.count, sink.remembered, sink.word);
-            assert_eq!(fields(reply.state), fields(given), "a refused call returns the state given: {}", said());
+            assert_eq!(
+                fields(reply.state),
+                fields(given),
+                "a refused call returns the state given: {}",
+                said()
+            );
         }
         their_frame.must_be("frame", &frame);
         their_out.must_be("output", &out);
-        let their_tally = Tally { frames: their_tally.frames, bad: their_tally.bad, bytes: their_tally.bytes };
+        let their_tally =
+            Tally { frames: their_tally.frames, bad: their_tally.bad, bytes: their_tally.bytes };
         assert_eq!(their_tally, tally, "{}", said());
         case.count_frame(settings, answer.err());
     });
@@ -86,7 +101,8 @@ fn a_buffer_of_length_0_may_be_null() {
     let sink = ffi::Sink::from(&odu0::Sink::new());
     let (mut tally, mut frame) = (odu0::Tally::default(), [9; 12]);
     let at = frame.as_mut_ptr();
-    // SAFETY: the pointer of a buffer of length 0 is not used; the other buffers are live and do not overlap.
+    // SAFETY: the pointer of a buffer of length 0 is not used; the other buffers are live and do
+    // not overlap.
     unsafe {
         let reply = ffi::odu0_source_call(settings, source.clone(), 0, null_mut(), 0, at, 12);
         assert_eq!(reply.refusal, 0);

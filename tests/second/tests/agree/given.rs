@@ -1,4 +1,5 @@
-//! What the calls are given: random arguments, most of them near what is accepted or expected, and hostile ones.
+//! What the calls are given: random arguments, most of them near what is accepted or expected, and
+//! hostile ones.
 
 use second::{check, pattern, possible, word, Random, Settings, Sink, Tally};
 
@@ -30,7 +31,8 @@ pub fn any_settings(random: &mut Random) -> Settings {
     if random.once_in(10) {
         // At 2^30 and above, 4 × K does not fit 32 bits.
         let odd = random.u32();
-        let grids = [0, 3808, 3809, 3810, 0x3FFF_FFFF, 1 << 30, (1 << 30) + 1, 1 << 31, u32::MAX, odd];
+        let grids =
+            [0, 3808, 3809, 3810, 0x3FFF_FFFF, 1 << 30, (1 << 30) + 1, 1 << 31, u32::MAX, odd];
         settings.k = random.of(&grids);
     }
     if random.once_in(10) {
@@ -61,7 +63,8 @@ pub fn count_inside(random: &mut Random, settings: Settings) -> u32 {
     }
 }
 
-/// Mostly a count inside the window, else one beside it, one that only equals such a count modulo 16,384 or 65,536, or any.
+/// Mostly a count inside the window, else one beside it, one that only equals such a count modulo
+/// 16,384 or 65,536, or any.
 pub fn any_count(random: &mut Random, settings: Settings) -> u32 {
     let inside = count_inside(random, settings);
     match random.below(24) {
@@ -105,7 +108,10 @@ pub fn any_sink(random: &mut Random, settings: Settings) -> Sink {
         3 => word(0, inside % 16384),
         _ => word_after(random, settings, inside),
     };
-    Sink { count: (!random.once_in(4)).then_some(count), word: (!random.once_in(3)).then_some(word) }
+    Sink {
+        count: (!random.once_in(4)).then_some(count),
+        word: (!random.once_in(3)).then_some(word),
+    }
 }
 
 pub fn any_tally(random: &mut Random) -> Tally {
@@ -123,7 +129,9 @@ pub fn any_control(random: &mut Random, settings: Settings, state: &Sink) -> [u8
     let choice = random.below(16);
     let old = match (choice, state) {
         // A count which the remembered word may have announced.
-        (0..=4, Sink { word: Some(before), .. }) if before & 1 != before >> 1 & 1 => random.of(&possible(*before)),
+        (0..=4, Sink { word: Some(before), .. }) if before & 1 != before >> 1 & 1 => {
+            random.of(&possible(*before))
+        }
         (5..=9, Sink { count: Some(count), .. }) => *count,
         _ => count_inside(random, settings),
     };
@@ -181,12 +189,14 @@ pub fn any_length(random: &mut Random, right: u64) -> usize {
     length as usize
 }
 
-/// A word's C bits exclusive-or any of the four patterns: the counts that it continues, and those that it would with the other sign.
+/// A word's C bits exclusive-or any of the four patterns: the counts that it continues, and those
+/// that it would with the other sign.
 pub fn near_misses(word: u32) -> [u32; 4] {
     [1, -1, 2, -2].map(|change| word >> 2 & 0x3FFF ^ pattern(change))
 }
 
-/// Settings on a grid so large that the window can hold a count and others that a pattern leads to from it.
+/// Settings on a grid so large that the window can hold a count and others that a pattern leads to
+/// from it.
 pub fn large_settings(random: &mut Random) -> Settings {
     let k = if random.once_in(2) { 3808 } else { random.from_to(1400, 3807) };
     let (one, two) = (random.from_to(0, 4 * k), random.from_to(0, 4 * k));

@@ -87,10 +87,18 @@ fn random_input() {
         let rest = random.below(16) as usize;
         input.extend(random.bytes(rest));
         let wanted = lines(&input);
-        assert_eq!(shown(vec![input.clone()], None), wanted, "seed {seed}, case {case}: {input:02X?}");
+        assert_eq!(
+            shown(vec![input.clone()], None),
+            wanted,
+            "seed {seed}, case {case}: {input:02X?}"
+        );
         let most = random.of(&[3, 16, 17, 40, 5000]);
         let pieces = pieces(&mut random, &input, most);
-        assert_eq!(shown(pieces, None), wanted, "seed {seed}, case {case}, in pieces: {input:02X?}");
+        assert_eq!(
+            shown(pieces, None),
+            wanted,
+            "seed {seed}, case {case}, in pieces: {input:02X?}"
+        );
     }
 }
 
@@ -102,7 +110,9 @@ fn a_long_input() {
     input.extend([0; 7]);
     let (shown, wanted) = (shown(vec![input.clone()], None), lines(&input));
     assert!(wanted.lines().count() > 100_000);
-    if let Some((line, wanted)) = shown.lines().zip(wanted.lines()).find(|(line, wanted)| line != wanted) {
+    if let Some((line, wanted)) =
+        shown.lines().zip(wanted.lines()).find(|(line, wanted)| line != wanted)
+    {
         panic!("the program: {line}, second: {wanted}");
     }
     assert_eq!(shown.len(), wanted.len());
