@@ -1,4 +1,7 @@
-/* The placing and the taking of client bytes in C: byte by byte, and run by run with memcpy. Control bytes are the caller's. */
+/*
+ * The placing and the taking of client bytes in C: byte by byte, and run by run with memcpy.
+ * Control bytes are the caller's.
+ */
 #include <stddef.h>
 #include <stdint.h>
 #include <string.h>
@@ -36,7 +39,10 @@ void loop_take(const uint8_t *frame, uint8_t *out, size_t k, size_t c)
     }
 }
 
-/* Runs of client bytes between two stuffing bytes, each one memcpy; the lengths by one division for the frame. */
+/*
+ * Runs of client bytes between two stuffing bytes, each one memcpy; the lengths by one division for
+ * the frame.
+ */
 void runs_place(uint8_t *frame, const uint8_t *client, size_t k, size_t c)
 {
     size_t s = 4 * k, d = s - c, q, r, m, e;

@@ -1,5 +1,6 @@
-//! Times the proved source call and sink call on frames beside plain and fast versions that nobody proved, in one run, as ratios.
-//! All versions are first seen to agree. `cargo run --release -p bench -- check` only does that.
+//! Times the proved source call and sink call on frames beside plain and fast versions that nobody
+//! proved, in one run, as ratios. All versions are first seen to agree, and with the argument
+//! `check` that is all.
 
 use odu0::{Settings, Sink, Source, Tally};
 use std::hint::black_box;
@@ -12,13 +13,19 @@ extern "C" {
     fn runs_take(frame: *const u8, out: *mut u8, k: usize, c: usize);
 }
 
-/// The runs of client bytes of a frame: for each row its runs' lengths, by one division for the frame.
+/// Calls `run` with each run of client bytes of a frame: where it begins, its length, and whether a
+/// stuffing byte follows. The lengths come by one division for the frame.
 fn each_run(k: usize, c: usize, mut run: impl FnMut(usize, usize, bool)) {
     let d = 4 * k - c;
-    let (q, r) = if d == 0 { (4 * k, 0) } else { (c / d, c % d) };
-    let (mut m, mut e) = (if d == 0 { 4 * k } else { 0 }, 0);
+    let start = |row| row * (k + 2) + 2;
+    // Without a stuffing byte each row is one run.
+    if d == 0 {
+        (0..4).for_each(|row| run(start(row), k, false));
+        return;
+    }
+    let (q, r, mut m, mut e) = (c / d, c % d, 0, 0);
     for row in 0..4 {
-        let start = row * (k + 2) + 2;
+        let start = start(row);
         let mut i = 0;
         while i + m < k {
             run(start + i, m, true);
@@ -63,7 +70,7 @@ struct Job {
 
 impl Job {
     fn new(k: u32, count: u32) -> Self {
-        let settings = Settings { k, lo: 0, hi: 4 * k };
+        let settings = Settings::new(k, 0, 4 * k);
         let client: Vec<u8> = (0..count).map(|i| (i * 7 + 1) as u8).collect();
         let mut frame = vec![0; 4 * k as usize + 8];
         let mut source = Source::new(settings, count, 7).unwrap();
@@ -87,7 +94,10 @@ impl Job {
             runs_place(b.as_mut_ptr(), self.client.as_ptr(), k, c);
         }
         rust_place(&mut r, &self.client, k);
-        assert!(a == self.frame && b == self.frame && r == self.frame, "placing differs: k {k}, count {c}");
+        assert!(
+            a == self.frame && b == self.frame && r == self.frame,
+            "placing differs: k {k}, count {c}"
+        );
         let mut outs = vec![vec![0u8; 4 * k]; 4];
         // SAFETY: the frame has 4k + 8 bytes and each output 4k.
         unsafe {
@@ -101,7 +111,8 @@ impl Job {
     }
 }
 
-/// Nanoseconds for one call of each version: the best of several rounds, in each of which every version has its turn.
+/// Nanoseconds for one call of each version: the best of several rounds, in each of which every
+/// version has its turn.
 fn race<const N: usize>(mut versions: [Box<dyn FnMut() + '_>; N]) -> [f64; N] {
     let mut best = [f64::MAX; N];
     for _ in 0..40 {
@@ -115,7 +126,7 @@ fn race<const N: usize>(mut versions: [Box<dyn FnMut() + '_>; N]) -> [f64; N] {
     best
 }
 
-/// The times of source and sink: ours, the C byte loop, C runs, Rust runs, and one memcpy of the frame.
+/// The times of source and sink: ours, the C byte loop, C runs, Rust runs, one memcpy of the frame.
 fn measure(job: &Job) -> ([f64; 5], [f64; 5]) {
     let (k, c, s) = (job.settings.k as usize, job.client.len(), job.settings);
     let client = &job.client[..];
@@ -125,8 +136,12 @@ fn measure(job: &Job) -> ([f64; 5], [f64; 5]) {
     // SAFETY, here and below: every frame has 4k + 8 bytes, every output 4k, and the client has c.
     let place = race([
         Box::new(|| source.call(s, c as u32, black_box(client), black_box(f0)).unwrap()),
-        Box::new(|| unsafe { loop_place(black_box(&mut *f1).as_mut_ptr(), black_box(client).as_ptr(), k, c) }),
-        Box::new(|| unsafe { runs_place(black_box(&mut *f2).as_mut_ptr(), black_box(client).as_ptr(), k, c) }),
+        Box::new(|| unsafe {
+            loop_place(black_box(&mut *f1).as_mut_ptr(), black_box(client).as_ptr(), k, c)
+        }),
+        Box::new(|| unsafe {
+            runs_place(black_box(&mut *f2).as_mut_ptr(), black_box(client).as_ptr(), k, c)
+        }),
         Box::new(|| rust_place(black_box(f3), black_box(client), k)),
         Box::new(|| black_box(&mut *f4).copy_from_slice(black_box(&job.frame))),
     ]);
@@ -139,8 +154,12 @@ fn measure(job: &Job) -> ([f64; 5], [f64; 5]) {
         Box::new(|| {
             sink.call(s, black_box(frame), black_box(o0), &mut tally).unwrap();
         }),
-        Box::new(|| unsafe { loop_take(black_box(frame).as_ptr(), black_box(&mut *o1).as_mut_ptr(), k, c) }),
-        Box::new(|| unsafe { runs_take(black_box(frame).as_ptr(), black_box(&mut *o2).as_mut_ptr(), k, c) }),
+        Box::new(|| unsafe {
+            loop_take(black_box(frame).as_ptr(), black_box(&mut *o1).as_mut_ptr(), k, c)
+        }),
+        Box::new(|| unsafe {
+            runs_take(black_box(frame).as_ptr(), black_box(&mut *o2).as_mut_ptr(), k, c)
+        }),
         Box::new(|| rust_take(black_box(frame), black_box(o3), k, c)),
         Box::new(|| black_box(&mut *o4).copy_from_slice(black_box(frame))),
     ]);
@@ -149,7 +168,8 @@ fn measure(job: &Job) -> ([f64; 5], [f64; 5]) {
 
 fn show(title: &str, t: [f64; 5]) {
     println!(
-        "{title:<28} {:>9.0} ns   {:.2} of the C byte loop, {:.2} of C runs, {:.2} of Rust runs, {:.2} of memcpy",
+        "{title:<28} {:>9.0} ns   {:.2} of the C byte loop, {:.2} of C runs, {:.2} of Rust runs, \
+         {:.2} of memcpy",
         t[0],
         t[0] / t[1],
         t[0] / t[2],

@@ -1,26 +1,33 @@
 /*
- * A small job: a rate keeper, a source and a sink on OPU0. The sink begins to read in the middle of the source's run, at a frame whose word says only
- * "one more than before"; and one frame is harmed on its way. bindings/rust/examples/mapper.rs does the same and prints the same lines.
+ * A small job: a rate keeper, a source and a sink on OPU0. The sink begins to read in the middle of
+ * the source's run, at a frame whose word says only "one more than before"; and one frame is harmed
+ * on its way. bindings/rust/examples/mapper.rs does the same and prints the same lines.
  */
-#include <stdio.h>
-#include <string.h>
 #include "odu0.h"
 
-/* The rate of 1000BASE-X is P / Q client bytes a frame. The sink reads from frame FROM, and frame HARMED is harmed. */
+#include <stdio.h>
+#include <string.h>
+
+/*
+ * The rate of 1000BASE-X is P / Q client bytes a frame. The sink reads from frame FROM, and frame
+ * HARMED is harmed.
+ */
 enum { P = 18671875, Q = 1296, FRAMES = 12, FROM = 3, HARMED = 9 };
 
 /* The largest buffers that OPU0 needs. */
 static uint8_t client[14410], frame[15240], out[14410];
 
+/* A standing's name. */
 static const char *name(uint32_t standing)
 {
-    static const char *const names[] = {"refused", "READ", "TRACKED", "PAIRED", "BADCHECK", "WAITING", "OUTSIDE"};
+    static const char *const names[] = {"refused",  "READ",    "TRACKED", "PAIRED",
+                                        "BADCHECK", "WAITING", "OUTSIDE"};
     return names[standing];
 }
 
 int main(void)
 {
-    const odu0_settings opu0 = {3808, 14405, 14410};
+    const odu0_settings opu0 = ODU0_OPU0;
     odu0_tally tally = {0, 0, 0};
     odu0_sink sink = odu0_sink_new();
     odu0_sink_reply taken;
@@ -43,7 +50,8 @@ int main(void)
 
         /* The frame carries "count" of them and announces the count of the next. */
         rate = odu0_keeper_call(opu0, P, Q, rate.remainder);
-        source = odu0_source_call(opu0, source.state, rate.count, client, count, frame, sizeof frame);
+        source = odu0_source_call(opu0, source.state, rate.count, client, count, frame,
+                                  sizeof frame);
         if (rate.refusal != ODU0_ACCEPTED || source.refusal != ODU0_ACCEPTED)
             return 1;
 
@@ -63,12 +71,15 @@ int main(void)
         if (taken.found)
             sprintf(found, "%lu", (unsigned long)taken.count);
         equal = taken.handed == count && memcmp(out, client, count) == 0;
-        printf("frame %d: %s, count %s, handed %lu, equal %s\n", n, name(taken.standing), found, (unsigned long)taken.handed, equal ? "yes" : "no");
+        printf("frame %d: %s, count %s, handed %lu, equal %s\n", n, name(taken.standing), found,
+               (unsigned long)taken.handed, equal ? "yes" : "no");
     }
-    printf("tally: frames %lu, bad %lu, bytes %lu\n", (unsigned long)tally.frames, (unsigned long)tally.bad, (unsigned long)tally.bytes);
+    printf("tally: frames %lu, bad %lu, bytes %lu\n", (unsigned long)tally.frames,
+           (unsigned long)tally.bad, (unsigned long)tally.bytes);
 
     /* A frame that is one byte short is turned back, and changes nothing. */
     taken = odu0_sink_call(opu0, sink, frame, sizeof frame - 1, out, sizeof out, &tally);
-    printf("a frame of %lu bytes: refusal %lu\n", (unsigned long)(sizeof frame - 1), (unsigned long)taken.refusal);
+    printf("a frame of %lu bytes: refusal %lu\n", (unsigned long)(sizeof frame - 1),
+           (unsigned long)taken.refusal);
     return 0;
 }

@@ -1,9 +1,11 @@
 /*
  * The ODU0 generic mapper for C and C++: source, rate keeper and sink of a line card.
  *
- * Every function accepts every value of every number and buffers of every length, and ends with an answer or a refusal. A refused call changes no
- * buffer, no state and no tally. A buffer is a pointer and its length in bytes; a buffer of length 0 may be NULL. The buffers and the tally of one call
- * must not overlap. The library keeps no state of its own: the caller keeps what a call returns and passes it to the next.
+ * Every function accepts every value of every argument and buffers of every length, and ends with
+ * an answer or a refusal. A refused call changes no buffer, no state and no tally. A buffer is a
+ * pointer and its length in bytes; a buffer of length 0 may be NULL. The buffers and the tally of
+ * one call must not overlap. The library keeps no state of its own: the caller keeps what a call
+ * returns and passes it to the next.
  */
 #ifndef ODU0_H
 #define ODU0_H
@@ -16,7 +18,8 @@ extern "C" {
 #endif
 
 /*
- * Why a call is turned back. A call that more than one of these applies to answers the lowest number. 0 says that the call was accepted.
+ * Why a call is turned back: the refusal's number, its name and when it applies. A call that more
+ * than one of these applies to answers the lowest number. 0 says that the call was accepted.
  */
 enum odu0_refusal {
     ODU0_ACCEPTED = 0,
@@ -24,14 +27,14 @@ enum odu0_refusal {
     ODU0_WINDOW = 2,  /* window: lo > hi, or hi > 4 * k */
     ODU0_DIVISOR = 3, /* divisor: q is 0 or above 65,535 */
     ODU0_RATE = 4,    /* rate: the whole part of p / q is below lo, or p > hi * q */
-    ODU0_STATE = 5,   /* state: the source's count is outside the window, or the keeper's remainder is q or more */
+    ODU0_STATE = 5,   /* state: source's count outside the window, keeper's remainder q or more */
     ODU0_COUNT = 6,   /* count: the next count is outside the window */
     ODU0_CLIENT = 7,  /* client: the client bytes are not exactly the present count */
     ODU0_FRAME = 8,   /* frame: the frame buffer is not exactly 4 * k + 8 bytes */
     ODU0_SPACE = 9    /* space: the output buffer is shorter than hi */
 };
 
-/* What a sink says of a frame. 0 stands where the call was refused. */
+/* What a sink says of a frame: the standing, by its name. 0 stands where the call was refused. */
 enum odu0_standing {
     ODU0_REFUSED = 0,
     ODU0_READ = 1,     /* the word holds the count itself */
@@ -42,23 +45,39 @@ enum odu0_standing {
     ODU0_OUTSIDE = 6   /* the count that was reached is outside the window */
 };
 
-/* The settings: k payload columns in a row (1 to 3,808), and the window of counts lo to hi, hi at most 4 * k. OPU0 is {3808, 14405, 14410}. */
+/*
+ * The settings: k payload columns in a row (1 to 3,808), and the window of counts lo to hi, hi at
+ * most 4 * k.
+ */
 typedef struct odu0_settings {
     uint32_t k;
     uint32_t lo;
     uint32_t hi;
 } odu0_settings;
 
-/* A source's state: the present count, the multiframe number (0 to 255; a larger one is taken modulo 256) and the payload type. */
+/* clang-format off */
+/* Initialises settings: const odu0_settings eight = ODU0_SETTINGS(2, 0, 8); */
+#define ODU0_SETTINGS(k, lo, hi) {(k), (lo), (hi)}
+/* clang-format on */
+
+/* Initialises the settings of OPU0: const odu0_settings opu0 = ODU0_OPU0; */
+#define ODU0_OPU0 ODU0_SETTINGS(3808, 14405, 14410)
+
+/*
+ * A source's state: the present count, the multiframe number (0 to 255; a larger one is taken
+ * modulo 256) and the payload type.
+ */
 typedef struct odu0_source {
     uint32_t count;
-    uint32_t number;
-    uint8_t kind;
+    uint32_t multiframe;
+    uint8_t payload_type;
 } odu0_source;
 
 /*
- * A sink's state: a known count or none, a remembered word (JC1 * 256 + JC2) or none. A flag of 0 says none, whatever the number beside it; any other
- * flag says that the number counts. Of a word above 65,535 the low 16 bits are used. A refused call returns the very numbers that it was given.
+ * A sink's state: a known count or none, a remembered word (JC1 * 256 + JC2) or none. A flag of 0
+ * says none, whatever stands beside it; any other flag says that what stands beside it counts. Of a
+ * word above 65,535 the low 16 bits are used. A refused call returns the very state that it was
+ * given.
  */
 typedef struct odu0_sink {
     uint32_t known;
@@ -67,7 +86,10 @@ typedef struct odu0_sink {
     uint32_t word;
 } odu0_sink;
 
-/* One tally for the whole card: frames taken, BADCHECK frames and bytes handed out. Each stays at its largest number. */
+/*
+ * One tally for the whole card: frames taken, BADCHECK frames and bytes handed out. Each stays at
+ * its largest value.
+ */
 typedef struct odu0_tally {
     uint32_t frames;
     uint32_t bad;
@@ -80,7 +102,10 @@ typedef struct odu0_source_reply {
     odu0_source state;
 } odu0_source_reply;
 
-/* The answer to a rate keeper: the refusal's number, 0 if accepted; the next count, 0 if refused; and the remainder to go on from. */
+/*
+ * The answer to a rate keeper: the refusal's number, 0 if accepted; the next count, 0 if refused;
+ * and the remainder to go on from.
+ */
 typedef struct odu0_keeper_reply {
     uint32_t refusal;
     uint32_t count;
@@ -88,8 +113,9 @@ typedef struct odu0_keeper_reply {
 } odu0_keeper_reply;
 
 /*
- * The answer to a sink: the refusal's number, 0 if accepted; the standing, 0 if refused; whether it found a count, 1 or 0, and the count, 0 if none;
- * the number of bytes handed out; and the state to go on from.
+ * The answer to a sink: the refusal's number, 0 if accepted; the standing, 0 if refused; whether it
+ * found a count, 1 or 0, and the count, 0 if none; how many bytes it handed out; and the state to
+ * go on from.
  */
 typedef struct odu0_sink_reply {
     uint32_t refusal;
@@ -100,33 +126,47 @@ typedef struct odu0_sink_reply {
     odu0_sink state;
 } odu0_sink_reply;
 
-/* A new source with its first count, inside the window, and its payload type. Refusals 1, 2, 5; the state of a refusal is all zero. */
-odu0_source_reply odu0_source_new(odu0_settings settings, uint32_t first, uint8_t kind);
+/*
+ * A new source with its first count, inside the window, and its payload type. Refusals 1, 2, 5; the
+ * state of a refusal is all zero.
+ */
+odu0_source_reply odu0_source_new(odu0_settings settings, uint32_t first, uint8_t payload_type);
 
 /*
- * Writes the next frame, of 4 * k + 8 bytes, from exactly "present count" client bytes, and announces the next count in it.
- * Refusals 1, 2, 5, 6, 7, 8.
+ * Writes the next frame, of 4 * k + 8 bytes, from exactly "present count" client bytes, and
+ * announces the next count in it. Refusals 1, 2, 5, 6, 7, 8.
  */
-odu0_source_reply odu0_source_call(odu0_settings settings, odu0_source state, uint32_t next,
-                                   const uint8_t *client, size_t client_len,
-                                   uint8_t *frame, size_t frame_len);
+odu0_source_reply odu0_source_call(odu0_settings settings,
+                                   odu0_source state,
+                                   uint32_t next,
+                                   const uint8_t *client,
+                                   size_t client_len,
+                                   uint8_t *frame,
+                                   size_t frame_len);
 
 /* The remainder that a new rate keeper with the divisor q begins with. */
 uint32_t odu0_keeper_new(uint32_t q);
 
 /* The next count at p / q client bytes a frame. Refusals 1, 2, 3, 4, 5. */
-odu0_keeper_reply odu0_keeper_call(odu0_settings settings, uint32_t p, uint32_t q, uint32_t remainder);
+odu0_keeper_reply odu0_keeper_call(odu0_settings settings,
+                                   uint32_t p,
+                                   uint32_t q,
+                                   uint32_t remainder);
 
 /* A sink that knows nothing. */
 odu0_sink odu0_sink_new(void);
 
 /*
- * Takes a frame: hands out, to the start of the output buffer, the client bytes at the places of the count known before, leaves the bytes after them as
- * they were, follows the control word, and counts the frame in the tally. Refusals 1, 2, 8, 9.
+ * Takes a frame: hands out, to the start of the output buffer, the client bytes at the places of
+ * the count known before, leaves the bytes after them as they were, follows the control word, and
+ * counts the frame in the tally. Refusals 1, 2, 8, 9.
  */
-odu0_sink_reply odu0_sink_call(odu0_settings settings, odu0_sink state,
-                               const uint8_t *frame, size_t frame_len,
-                               uint8_t *out, size_t out_len,
+odu0_sink_reply odu0_sink_call(odu0_settings settings,
+                               odu0_sink state,
+                               const uint8_t *frame,
+                               size_t frame_len,
+                               uint8_t *out,
+                               size_t out_len,
                                odu0_tally *tally);
 
 #ifdef __cplusplus

@@ -1,4 +1,4 @@
-//! Finds libodu0.a, in ODU0_LIB_DIR or where `bindings/archive` writes it, and names it to the linker.
+//! Finds libodu0.a, in ODU0_LIB_DIR or where `bindings/archive` writes it, for the linker.
 
 use std::path::PathBuf;
 use std::{env, process};
@@ -14,7 +14,8 @@ fn main() {
     if !archive.is_file() {
         eprintln!("There is no {}.", archive.display());
         eprintln!(
-            "Run `bindings/archive` in the repository first, or set ODU0_LIB_DIR to the folder that holds libodu0.a."
+            "Run `bindings/archive` in the repository first, or set ODU0_LIB_DIR to the folder \
+             that holds libodu0.a."
         );
         process::exit(1);
     }

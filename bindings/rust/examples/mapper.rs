@@ -1,5 +1,6 @@
-//! A small job: a rate keeper, a source and a sink on OPU0. The sink begins to read in the middle of the source's run, at a frame whose word
-//! says only "one more than before"; and one frame is harmed on its way. bindings/c/example.c does the same and prints the same lines.
+//! A small job: a rate keeper, a source and a sink on OPU0. The sink begins to read in the middle
+//! of the source's run, at a frame whose word says only "one more than before"; and one frame is
+//! harmed on its way. bindings/c/example.c does the same and prints the same lines.
 
 use odu0::{Keeper, Refusal, Settings, Sink, Source, Tally};
 

@@ -1,10 +1,11 @@
-//! The C interface as bindings/c/odu0.h gives it: the functions, and those of their types that Rust says in another way.
+//! The C interface as bindings/c/odu0.h gives it: the functions, and those of their types that Rust
+//! says in another way.
 
 #![allow(missing_docs)]
 
 use crate::{Settings, Source, Tally};
 
-/// odu0_sink: a flag of 0 says none, whatever the number beside it.
+/// odu0_sink: a flag of 0 says none, whatever stands beside it.
 #[repr(C)]
 #[derive(Clone, Copy, Debug, PartialEq, Eq)]
 pub struct Sink {
@@ -44,7 +45,7 @@ pub struct SinkReply {
 }
 
 extern "C" {
-    pub fn odu0_source_new(settings: Settings, first: u32, kind: u8) -> SourceReply;
+    pub fn odu0_source_new(settings: Settings, first: u32, payload_type: u8) -> SourceReply;
     pub fn odu0_source_call(
         settings: Settings,
         state: Source,

@@ -1,8 +1,9 @@
 //! The ODU0 generic mapper for Rust: source, rate keeper and sink of a line card.
 //!
-//! Every call accepts every value of every number and buffers of every length, and ends with an answer or a [`Refusal`]. A refused call
-//! changes no buffer, no state and no tally. The library keeps no state of its own; a state is plain numbers in the caller's hands, and
-//! nothing here allocates. `examples/mapper.rs` shows a whole job.
+//! Every call accepts every value of every argument and buffers of every length, and ends with an
+//! answer or a [`Refusal`]. A refused call changes no buffer, no state and no tally. The library
+//! keeps no state of its own; a state is plain data in the caller's hands, and nothing here
+//! allocates. `examples/mapper.rs` shows a whole job.
 
 #![no_std]
 #![warn(missing_docs)]
@@ -25,10 +26,16 @@ pub struct Settings {
 
 impl Settings {
     /// OPU0: 3,808 columns, counts 14,405 to 14,410.
-    pub const OPU0: Settings = Settings { k: 3808, lo: 14405, hi: 14410 };
+    pub const OPU0: Settings = Settings::new(3808, 14405, 14410);
+
+    /// Settings with k payload columns in a row and the window of counts lo to hi.
+    pub const fn new(k: u32, lo: u32, hi: u32) -> Settings {
+        Settings { k, lo, hi }
+    }
 }
 
-/// Why a call is turned back. A call that more than one of these applies to answers the one with the lowest number.
+/// Why a call is turned back. A call that more than one of these applies to answers the one with
+/// the lowest number.
 #[derive(Clone, Copy, Debug, PartialEq, Eq)]
 pub enum Refusal {
     /// 1: k is 0 or above 3,808.
@@ -70,8 +77,8 @@ impl Refusal {
         self as u32
     }
 
-    /// Its word.
-    pub fn word(self) -> &'static str {
+    /// Its name.
+    pub fn name(self) -> &'static str {
         match self {
             Refusal::Grid => "grid",
             Refusal::Window => "window",
@@ -86,7 +93,7 @@ impl Refusal {
     }
 }
 
-/// The number of a reply: 0 says that the call was accepted.
+/// A reply's refusal by its number: 0 says that the call was accepted.
 fn accepted(number: u32) -> Result<(), Refusal> {
     if number == 0 {
         return Ok(());
@@ -99,7 +106,7 @@ fn accepted(number: u32) -> Result<(), Refusal> {
 
 impl fmt::Display for Refusal {
     fn fmt(&self, f: &mut fmt::Formatter<'_>) -> fmt::Result {
-        write!(f, "{} (number {})", self.word(), self.number())
+        write!(f, "{} (number {})", self.name(), self.number())
     }
 }
 
@@ -138,7 +145,9 @@ impl Standing {
     /// The count that it found, if it found one.
     pub fn count(self) -> Option<u32> {
         match self {
-            Standing::Read(count) | Standing::Tracked(count) | Standing::Paired(count) => Some(count),
+            Standing::Read(count) | Standing::Tracked(count) | Standing::Paired(count) => {
+                Some(count)
+            }
             Standing::BadCheck | Standing::Waiting | Standing::Outside => None,
         }
     }
@@ -151,24 +160,32 @@ pub struct Source {
     /// The present count: how many client bytes the next frame carries.
     pub count: u32,
     /// The multiframe number of the next frame, 0 to 255; a larger one is taken modulo 256.
-    pub number: u32,
+    pub multiframe: u32,
     /// The payload type.
-    pub kind: u8,
+    pub payload_type: u8,
 }
 
 impl Source {
-    /// A new source with its first count, inside the window, and its payload type. Refusals: grid, window, state.
-    pub fn new(settings: Settings, first: u32, kind: u8) -> Result<Source, Refusal> {
-        // SAFETY: the function takes and returns plain numbers, and every value of each is allowed.
-        let reply = unsafe { ffi::odu0_source_new(settings, first, kind) };
+    /// A new source with its first count, inside the window, and its payload type. Refusals: grid,
+    /// window, state.
+    pub fn new(settings: Settings, first: u32, payload_type: u8) -> Result<Source, Refusal> {
+        // SAFETY: the function takes and returns plain values, and every one of them is allowed.
+        let reply = unsafe { ffi::odu0_source_new(settings, first, payload_type) };
         accepted(reply.refusal)?;
         Ok(reply.state)
     }
 
-    /// Writes the next frame, of 4 × k + 8 bytes, from exactly "present count" client bytes, and announces the next count in it.
-    /// Refusals: grid, window, state, count, client, frame.
-    pub fn call(&mut self, settings: Settings, next: u32, client: &[u8], frame: &mut [u8]) -> Result<(), Refusal> {
-        // SAFETY: each pointer is that of a live slice and stands before its length; `frame` is lent for writing, so they do not overlap.
+    /// Writes the next frame, of 4 × k + 8 bytes, from exactly "present count" client bytes, and
+    /// announces the next count in it. Refusals: grid, window, state, count, client, frame.
+    pub fn call(
+        &mut self,
+        settings: Settings,
+        next: u32,
+        client: &[u8],
+        frame: &mut [u8],
+    ) -> Result<(), Refusal> {
+        // SAFETY: each pointer is that of a live slice and stands before its length; `frame` is
+        // lent for writing, so they do not overlap.
         let reply = unsafe {
             ffi::odu0_source_call(
                 settings,
@@ -195,14 +212,14 @@ pub struct Keeper {
 impl Keeper {
     /// A new keeper with the divisor q.
     pub fn new(q: u32) -> Keeper {
-        // SAFETY: the function takes and returns a number, and every value of it is allowed.
+        // SAFETY: the function takes and returns a plain value, and every one is allowed.
         let remainder = unsafe { ffi::odu0_keeper_new(q) };
         Keeper { remainder }
     }
 
     /// The next count at p / q client bytes a frame. Refusals: grid, window, divisor, rate, state.
     pub fn call(&mut self, settings: Settings, p: u32, q: u32) -> Result<u32, Refusal> {
-        // SAFETY: the function takes and returns plain numbers, and every value of each is allowed.
+        // SAFETY: the function takes and returns plain values, and every one of them is allowed.
         let reply = unsafe { ffi::odu0_keeper_call(settings, p, q, self.remainder) };
         self.remainder = reply.remainder;
         accepted(reply.refusal)?;
@@ -210,7 +227,7 @@ impl Keeper {
     }
 }
 
-/// One tally for the whole card, lent to each call of a sink. Each number stays at its largest.
+/// One tally for the whole card, lent to each call of a sink. A field stays at its largest value.
 #[repr(C)]
 #[derive(Clone, Copy, Debug, Default, PartialEq, Eq)]
 pub struct Tally {
@@ -222,8 +239,9 @@ pub struct Tally {
     pub bytes: u32,
 }
 
-// The library is lent the tally as three 32-bit numbers, one after the other.
-const _: () = assert!(size_of::<Tally>() == 3 * size_of::<u32>() && align_of::<Tally>() == align_of::<u32>());
+// The library is lent the tally as three 32-bit fields, one after the other.
+const _: () =
+    assert!(size_of::<Tally>() == 3 * size_of::<u32>() && align_of::<Tally>() == align_of::<u32>());
 
 /// What an accepted call of a sink answers.
 #[derive(Clone, Copy, Debug, PartialEq, Eq)]
@@ -246,12 +264,13 @@ pub struct Sink {
 impl Sink {
     /// A sink that knows nothing.
     pub fn new() -> Sink {
-        // SAFETY: the function takes nothing and returns plain numbers.
+        // SAFETY: the function takes nothing and returns plain values.
         Sink::from(unsafe { ffi::odu0_sink_new() })
     }
 
-    /// Takes a frame: hands out, to the start of `out`, the client bytes at the places of the count known before, leaves the bytes
-    /// after them as they were, follows the control word, and counts the frame in the tally. Refusals: grid, window, frame, space.
+    /// Takes a frame: hands out, to the start of `out`, the client bytes at the places of the count
+    /// known before, leaves the bytes after them as they were, follows the control word, and counts
+    /// the frame in the tally. Refusals: grid, window, frame, space.
     pub fn call(
         &mut self,
         settings: Settings,
@@ -259,8 +278,9 @@ impl Sink {
         out: &mut [u8],
         tally: &mut Tally,
     ) -> Result<Taken, Refusal> {
-        // SAFETY: each pointer is that of a live slice and stands before its length, and `tally` has the layout of odu0_tally (above);
-        // `out` and `tally` are lent for writing, so none of them overlap.
+        // SAFETY: each pointer is that of a live slice and stands before its length, and `tally`
+        // has the layout of odu0_tally (above); `out` and `tally` are lent for writing, so none of
+        // them overlap.
         let reply = unsafe {
             ffi::odu0_sink_call(
                 settings,
@@ -295,7 +315,10 @@ impl Default for Sink {
 
 impl From<ffi::Sink> for Sink {
     fn from(state: ffi::Sink) -> Sink {
-        Sink { count: (state.known != 0).then_some(state.count), word: (state.remembered != 0).then_some(state.word) }
+        Sink {
+            count: (state.known != 0).then_some(state.count),
+            word: (state.remembered != 0).then_some(state.word),
+        }
     }
 }
 

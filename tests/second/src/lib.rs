@@ -1,8 +1,10 @@
 //! A second implementation of the ODU0 generic mapper, and a small generator of random numbers.
 //!
-//! It is written from the scope paper, in the paper's own order and with no thought of speed: every place is tested by n × C mod S < C, the
-//! check is a long division bit by bit, and the sink is the paper's rules 1 to 3 one after the other. Where the paper is silent it goes by
-//! odu0.h: a multiframe number above 255 is taken modulo 256. Of a remembered word only the 16 bits that a word has are looked at.
+//! It is written from the scope paper, in the paper's own order and with no thought of speed: every
+//! place is tested by n × C mod S < C, the check is a long division bit by bit, and the sink is the
+//! paper's rules 1 to 3 one after the other. Where the paper is silent it goes by odu0.h: a
+//! multiframe number above 255 is taken modulo 256. Of a remembered word only the 16 bits that a
+//! word has are looked at.
 
 mod random;
 
@@ -17,14 +19,18 @@ pub struct Settings {
 }
 
 impl Settings {
-    pub const OPU0: Settings = Settings { k: 3808, lo: 14405, hi: 14410 };
+    pub const OPU0: Settings = Settings::new(3808, 14405, 14410);
 
-    /// S, the number of payload bytes.
+    pub const fn new(k: u32, lo: u32, hi: u32) -> Settings {
+        Settings { k, lo, hi }
+    }
+
+    /// S: how many payload bytes a frame has.
     pub fn payload(self) -> u64 {
         4 * u64::from(self.k)
     }
 
-    /// The number of bytes in a frame.
+    /// How many bytes a frame has.
     pub fn frame(self) -> u64 {
         self.payload() + 8
     }
@@ -131,16 +137,16 @@ pub fn possible(word: u32) -> [u32; 2] {
     changes(word).map(|change| moved(c_bits(word) ^ pattern(change), change))
 }
 
-/// The lowest number that applies, of the numbers that do.
-fn turn_back(numbers: Vec<u32>) -> Result<(), u32> {
-    match numbers.into_iter().min() {
+/// The refusal with the lowest number, of those that apply.
+fn turn_back(applying: Vec<u32>) -> Result<(), u32> {
+    match applying.into_iter().min() {
         Some(number) => Err(number),
         None => Ok(()),
     }
 }
 
-/// The numbers whose condition is true.
-fn numbers<const N: usize>(table: [(u32, bool); N]) -> Vec<u32> {
+/// The numbers of the refusals whose condition is true.
+fn applying<const N: usize>(table: [(u32, bool); N]) -> Vec<u32> {
     table.into_iter().filter(|line| line.1).map(|line| line.0).collect()
 }
 
@@ -148,24 +154,28 @@ fn numbers<const N: usize>(table: [(u32, bool); N]) -> Vec<u32> {
 #[derive(Clone, Debug, PartialEq, Eq)]
 pub struct Source {
     pub count: u32,
-    pub number: u32,
-    pub kind: u8,
+    pub multiframe: u32,
+    pub payload_type: u8,
 }
 
 impl Source {
-    /// Every number by which a new source is turned back.
+    /// Every refusal of a new source, by its number.
     pub fn new_refusals(settings: Settings, first: u32) -> Vec<u32> {
-        numbers([(1, settings.grid_is_wrong()), (2, settings.window_is_wrong()), (5, !settings.holds(first))])
+        applying([
+            (1, settings.grid_is_wrong()),
+            (2, settings.window_is_wrong()),
+            (5, !settings.holds(first)),
+        ])
     }
 
-    pub fn new(settings: Settings, first: u32, kind: u8) -> Result<Source, u32> {
+    pub fn new(settings: Settings, first: u32, payload_type: u8) -> Result<Source, u32> {
         turn_back(Source::new_refusals(settings, first))?;
-        Ok(Source { count: first, number: 0, kind })
+        Ok(Source { count: first, multiframe: 0, payload_type })
     }
 
-    /// Every number by which a call is turned back.
+    /// Every refusal of a call, by its number.
     pub fn refusals(&self, settings: Settings, next: u32, client: &[u8], frame: &[u8]) -> Vec<u32> {
-        numbers([
+        applying([
             (1, settings.grid_is_wrong()),
             (2, settings.window_is_wrong()),
             (5, !settings.holds(self.count)),
@@ -175,7 +185,13 @@ impl Source {
         ])
     }
 
-    pub fn call(&mut self, settings: Settings, next: u32, client: &[u8], frame: &mut [u8]) -> Result<(), u32> {
+    pub fn call(
+        &mut self,
+        settings: Settings,
+        next: u32,
+        client: &[u8],
+        frame: &mut [u8],
+    ) -> Result<(), u32> {
         turn_back(self.refusals(settings, next, client, frame))?;
         frame.fill(0);
         let row = settings.k as usize + 2;
@@ -183,9 +199,9 @@ impl Source {
         frame[1] = (announced >> 8) as u8;
         frame[row + 1] = announced as u8;
         frame[2 * row + 1] = check(announced) as u8;
-        let number = self.number % 256;
-        if number == 0 {
-            frame[3 * row] = self.kind;
+        let multiframe = self.multiframe % 256;
+        if multiframe == 0 {
+            frame[3 * row] = self.payload_type;
         }
         let mut client = client.iter();
         for (n, at) in (1..).zip(payload_bytes(settings.k)) {
@@ -195,7 +211,7 @@ impl Source {
         }
         assert!(client.next().is_none(), "there are exactly C places");
         self.count = next;
-        self.number = (number + 1) % 256;
+        self.multiframe = (multiframe + 1) % 256;
         Ok(())
     }
 }
@@ -211,10 +227,11 @@ impl Keeper {
         Keeper { remainder: 0 }
     }
 
-    /// Every number by which a call is turned back. Nothing is divided by zero: number 3 is below number 4.
+    /// Every refusal of a call, by its number. Nothing is divided by zero: refusal 3 is below
+    /// refusal 4.
     pub fn refusals(&self, settings: Settings, p: u32, q: u32) -> Vec<u32> {
         let (whole, most) = (p.checked_div(q), u64::from(settings.hi) * u64::from(q));
-        numbers([
+        applying([
             (1, settings.grid_is_wrong()),
             (2, settings.window_is_wrong()),
             (3, q == 0 || q > 65535),
@@ -249,8 +266,8 @@ pub enum Standing {
 }
 
 impl Standing {
-    /// The paper's word.
-    pub fn word(self) -> &'static str {
+    /// The paper's name for it.
+    pub fn name(self) -> &'static str {
         match self {
             Standing::Read(_) => "READ",
             Standing::Tracked(_) => "TRACKED",
@@ -264,7 +281,9 @@ impl Standing {
     /// The count that it found.
     pub fn count(self) -> Option<u32> {
         match self {
-            Standing::Read(count) | Standing::Tracked(count) | Standing::Paired(count) => Some(count),
+            Standing::Read(count) | Standing::Tracked(count) | Standing::Paired(count) => {
+                Some(count)
+            }
             _ => None,
         }
     }
@@ -290,9 +309,9 @@ impl Sink {
         Sink::default()
     }
 
-    /// Every number by which a call is turned back.
+    /// Every refusal of a call, by its number.
     pub fn refusals(&self, settings: Settings, frame: &[u8], out: &[u8]) -> Vec<u32> {
-        numbers([
+        applying([
             (1, settings.grid_is_wrong()),
             (2, settings.window_is_wrong()),
             (8, frame.len() as u64 != settings.frame()),
@@ -402,7 +421,7 @@ mod tests {
         assert_eq!(standing(&mut sink, Settings::OPU0, first), Standing::Waiting);
         assert_eq!(standing(&mut sink, Settings::OPU0, then), Standing::Paired(14409));
 
-        let (wide, small) = (Settings { k: 3808, lo: 0, hi: 15232 }, Settings { k: 2, lo: 0, hi: 8 });
+        let (wide, small) = (Settings::new(3808, 0, 15232), Settings::new(2, 0, 8));
         let mut sink = Sink { count: Some(2932), word: None };
         assert_eq!(standing(&mut sink, wide, first), Standing::Tracked(2934));
         assert_eq!(standing(&mut sink, wide, then), Standing::Paired(14409));
@@ -441,7 +460,8 @@ mod tests {
         assert_eq!(counts, [14407, 14407, 14407, 14408]);
     }
 
-    /// The paper says "the one which this word continues": no word continues both possible counts of another.
+    /// The paper says "the one which this word continues": no word continues both possible counts
+    /// of another.
     #[test]
     fn a_pair_of_words_leads_to_one_count() {
         let mut both_end_in_11 = 0;
@@ -453,7 +473,8 @@ mod tests {
             assert_ne!(one, two);
             both_end_in_11 += u32::from(one & 3 == 3 && two & 3 == 3);
             for sign in [1, 2] {
-                let words = |count: u32| changes(sign).map(|change| (count ^ pattern(change)) << 2 | sign);
+                let words =
+                    |count: u32| changes(sign).map(|change| (count ^ pattern(change)) << 2 | sign);
                 for word in words(one) {
                     assert!(continued(one, word).is_some());
                     assert!(!words(two).contains(&word), "{before:04X} {word:04X}");

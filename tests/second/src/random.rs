@@ -7,7 +7,7 @@ impl Random {
         Random(seed)
     }
 
-    pub fn number(&mut self) -> u64 {
+    pub fn u64(&mut self) -> u64 {
         self.0 = self.0.wrapping_add(0x9E37_79B9_7F4A_7C15);
         let mut z = self.0;
         z = (z ^ z >> 30).wrapping_mul(0xBF58_476D_1CE4_E5B9);
@@ -16,15 +16,15 @@ impl Random {
     }
 
     pub fn u32(&mut self) -> u32 {
-        (self.number() >> 32) as u32
+        (self.u64() >> 32) as u32
     }
 
-    /// A number below another; the little that is uneven about it does not matter here.
+    /// A value below the bound; the little that is uneven about it does not matter here.
     pub fn below(&mut self, bound: u64) -> u64 {
-        self.number() % bound
+        self.u64() % bound
     }
 
-    /// A number from one to another, both among them.
+    /// A value from the first to the last, both among them.
     pub fn from_to(&mut self, first: u32, last: u32) -> u32 {
         first + self.below(u64::from(last - first) + 1) as u32
     }
@@ -40,7 +40,7 @@ impl Random {
 
     pub fn fill(&mut self, bytes: &mut [u8]) {
         for piece in bytes.chunks_mut(8) {
-            piece.copy_from_slice(&self.number().to_le_bytes()[..piece.len()]);
+            piece.copy_from_slice(&self.u64().to_le_bytes()[..piece.len()]);
         }
     }
 

@@ -1,14 +1,15 @@
-//! The library against the second implementation: the answer, the state, every byte of every buffer and the tally of each call, and demand 3
-//! watched on whole runs. `agree/both.rs` says how to run one case again.
+//! The library against the second implementation: the answer, the state, every byte of every buffer
+//! and the tally of each call, and demand 3 watched on whole runs. `agree/both.rs` says how to run
+//! one case again.
 
 #[path = "agree/both.rs"]
 mod both;
 #[path = "agree/calls.rs"]
 mod calls;
+#[path = "agree/fields.rs"]
+mod fields;
 #[path = "agree/given.rs"]
 mod given;
-#[path = "agree/numbers.rs"]
-mod numbers;
 #[path = "agree/refusals.rs"]
 mod refusals;
 #[path = "agree/runs.rs"]

@@ -1,10 +1,11 @@
-//! The worked frames of the scope paper, run against the library: the starred ones, which are proved as well, and the others.
+//! The worked frames of the scope paper, run against the library: the starred ones, which are
+//! proved as well, and the others.
 
 use odu0::{Keeper, Refusal, Settings, Sink, Source, Standing, Taken, Tally};
 
 const OPU0: Settings = Settings::OPU0;
-const WIDE: Settings = Settings { k: 3808, lo: 0, hi: 15232 };
-const EIGHT: Settings = Settings { k: 2, lo: 0, hi: 8 };
+const WIDE: Settings = Settings::new(3808, 0, 15232);
+const EIGHT: Settings = Settings::new(2, 0, 8);
 
 /// Where JC1, JC2 and JC3 stand.
 fn control_bytes(settings: Settings) -> [usize; 3] {
@@ -14,10 +15,10 @@ fn control_bytes(settings: Settings) -> [usize; 3] {
 
 /// The control bytes that a source at the count "old" writes for the next count.
 fn announced(old: u32, next: u32) -> [u8; 3] {
-    let mut source = Source { count: old, number: 0, kind: 0 };
+    let mut source = Source { count: old, multiframe: 0, payload_type: 0 };
     let mut frame = vec![0xEE; 15240];
     source.call(OPU0, next, &vec![0x55; old as usize], &mut frame).unwrap();
-    assert_eq!(source, Source { count: next, number: 1, kind: 0 });
+    assert_eq!(source, Source { count: next, multiframe: 1, payload_type: 0 });
     control_bytes(OPU0).map(|at| frame[at])
 }
 
@@ -68,7 +69,8 @@ fn zeros_pass_the_check_and_ones_do_not() {
     }
 }
 
-/// The places of a count among eight payload bytes, by what a source writes there and by what a sink takes from there.
+/// The places of a count among eight payload bytes, by what a source writes there and by what a
+/// sink takes from there.
 #[test]
 fn places_of_eight() {
     for (count, places) in [(3, &[3, 6, 8][..]), (0, &[]), (8, &[1, 2, 3, 4, 5, 6, 7, 8])] {
@@ -85,10 +87,11 @@ fn places_of_eight() {
         assert_eq!(payload, wanted);
         assert_eq!((frame[0], frame[4], frame[8], frame[12], frame[13]), (0, 0, 0, 0x07, 0));
 
-        let numbered = [0, 0, 1, 2, 0, 0, 3, 4, 0, 0, 5, 6, 0, 0, 7, 8];
+        // A frame in which each payload byte is its own place.
+        let by_place = [0, 0, 1, 2, 0, 0, 3, 4, 0, 0, 5, 6, 0, 0, 7, 8];
         let (mut sink, mut tally) = (Sink { count: Some(count), word: None }, Tally::default());
         let mut out = [0xEE; 9];
-        let taken = sink.call(EIGHT, &numbered, &mut out, &mut tally);
+        let taken = sink.call(EIGHT, &by_place, &mut out, &mut tally);
         assert_eq!(taken, Ok(Taken { standing: Standing::Read(0), handed: count }));
         assert_eq!(out[..places.len()], *places);
         assert!(out[places.len()..].iter().all(|byte| *byte == 0xEE));
@@ -106,17 +109,20 @@ fn rate_of_1000base_x() {
 
 #[test]
 fn the_largest_grid() {
-    let (last, above) = (Settings { k: 3808, ..OPU0 }, Settings { k: 3809, ..OPU0 });
+    let [last, above] = [3808, 3809].map(|k| Settings::new(k, OPU0.lo, OPU0.hi));
     let client = vec![0; 14405];
     // The frames have the right length for either grid.
     for (settings, refusal) in [(last, None), (above, Some(Refusal::Grid))] {
         let mut frame = vec![0; 4 * settings.k as usize + 8];
         let mut out = vec![0; 14410];
-        let mut source = Source { count: 14405, number: 0, kind: 0 };
+        let mut source = Source { count: 14405, multiframe: 0, payload_type: 0 };
         assert_eq!(Source::new(settings, 14405, 0).err(), refusal);
         assert_eq!(source.call(settings, 14405, &client, &mut frame).err(), refusal);
         assert_eq!(Keeper::new(1296).call(settings, 18671875, 1296).err(), refusal);
-        assert_eq!(Sink::new().call(settings, &frame, &mut out, &mut Tally::default()).err(), refusal);
+        assert_eq!(
+            Sink::new().call(settings, &frame, &mut out, &mut Tally::default()).err(),
+            refusal
+        );
     }
 }
 
@@ -136,11 +142,11 @@ fn the_smallest_output_buffer() {
 fn a_frame_one_byte_short() {
     let (mut frame, mut out, mut tally) = (vec![0xEE; 15239], vec![0xEE; 14410], Tally::default());
     let refusal = Sink::new().call(OPU0, &frame, &mut out, &mut tally).unwrap_err();
-    assert_eq!((refusal, refusal.number(), refusal.word()), (Refusal::Frame, 8, "frame"));
+    assert_eq!((refusal, refusal.number(), refusal.name()), (Refusal::Frame, 8, "frame"));
     let mut source = Source::new(OPU0, 14407, 0x07).unwrap();
     let refusal = source.call(OPU0, 14407, &[0; 14407], &mut frame).unwrap_err();
     assert_eq!(refusal.number(), 8);
-    assert_eq!(source, Source { count: 14407, number: 0, kind: 0x07 });
+    assert_eq!(source, Source { count: 14407, multiframe: 0, payload_type: 0x07 });
     assert!(frame.iter().chain(&out).all(|byte| *byte == 0xEE));
     assert_eq!(tally, Tally::default());
 }
@@ -148,8 +154,8 @@ fn a_frame_one_byte_short() {
 /// The frames of the program sinkshow.
 #[test]
 fn frames_of_sinkshow() {
-    let first = [0x00, 0xAA, 0x00, 0x00, 0x00, 0xA6, 0x11, 0x00, 0x00, 0x0A, 0x00, 0x22, 0x07, 0x00, 0x00, 0x33];
-    let second = [0x00, 0x00, 0x00, 0x44, 0x00, 0x10, 0x00, 0x55, 0x00, 0xD0, 0x00, 0x66, 0x00, 0x00, 0x00, 0x77];
+    let first = [0, 0xAA, 0, 0, 0, 0xA6, 0x11, 0, 0, 0x0A, 0, 0x22, 0x07, 0, 0, 0x33];
+    let second = [0, 0, 0, 0x44, 0, 0x10, 0, 0x55, 0, 0xD0, 0, 0x66, 0, 0, 0, 0x77];
     let (mut sink, mut tally, mut out) = (Sink::new(), Tally::default(), [0; 8]);
     let mut call = |frame: &[u8]| sink.call(EIGHT, frame, &mut out, &mut tally);
     assert_eq!(call(&first), Ok(Taken { standing: Standing::Waiting, handed: 0 }));
@@ -168,12 +174,12 @@ fn frames_of_sinkshow() {
     }
 }
 
-/// The paper's words for the refusals and the standings.
+/// The paper's names for the refusals and the standings.
 #[test]
-fn words_and_numbers() {
-    let words = ["grid", "window", "divisor", "rate", "state", "count", "client", "frame", "space"];
-    for ((refusal, word), number) in Refusal::ALL.into_iter().zip(words).zip(1..) {
-        assert_eq!((refusal.number(), refusal.word()), (number, word));
+fn names_and_numbers() {
+    let names = ["grid", "window", "divisor", "rate", "state", "count", "client", "frame", "space"];
+    for ((refusal, name), number) in Refusal::ALL.into_iter().zip(names).zip(1..) {
+        assert_eq!((refusal.number(), refusal.name()), (number, name));
     }
     let standings = [Standing::Read(1), Standing::Tracked(2), Standing::Paired(3)];
     assert_eq!(standings.map(Standing::name), ["READ", "TRACKED", "PAIRED"]);

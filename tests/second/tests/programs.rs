@@ -1,4 +1,5 @@
-//! The programs on many inputs, against the second implementation. `rt check` or `rt ci` leaves them in target/bin.
+//! The programs on many inputs, against the second implementation. `rt check` or `rt ci` leaves
+//! them in target/bin.
 
 #[path = "programs/feed.rs"]
 mod feed;

@@ -1,8 +1,8 @@
-//! Makes each call twice, through the library and through the second implementation, and compares the answer, the state, every byte of
-//! every buffer and the tally.
+//! Makes each call twice, through the library and through the second implementation, and compares
+//! the answer, the state, every byte of every buffer and the tally.
 //!
-//! A case draws its random numbers from the seed, the test's name and its own number, so it can be run again alone. SEED sets another seed,
-//! CASE runs one case only, RUNS multiplies the number of cases.
+//! A case draws its random numbers from the seed, the test's name and its own index, so it can be
+//! run again alone. SEED sets another seed, CASE runs one case only, RUNS multiplies the cases.
 
 use second::{Keeper, Random, Settings, Sink, Source, Standing, Tally};
 use std::fmt;
@@ -20,7 +20,7 @@ pub struct Done {
     pub opu0: u64,
     /// Accepted keeper calls and new sources.
     pub others: u64,
-    /// Calls turned back, by their number.
+    /// Calls turned back, by the refusal's number.
     pub refused: [u64; 10],
     /// Sink calls, by what they answered.
     pub standings: [u64; 6],
@@ -29,7 +29,8 @@ pub struct Done {
 /// One case of a test, with what is needed to run it again.
 pub struct Case {
     pub random: Random,
-    pub number: u64,
+    /// Which of the test's cases it is, from 0.
+    pub index: u64,
     pub done: Done,
     test: &'static str,
     seed: u64,
@@ -47,15 +48,16 @@ enum Call {
 /// Runs a test's cases and says on standard error how many calls were compared.
 pub fn cases(test: &'static str, cases: u64, mut run: impl FnMut(&mut Case)) -> Done {
     let seed = from_environment("SEED").unwrap_or(1);
-    let numbers = match from_environment("CASE") {
+    let indices = match from_environment("CASE") {
         Some(only) => only..only + 1,
         None => 0..cases * from_environment("RUNS").unwrap_or(1),
     };
     let began = Instant::now();
-    let mut case = Case { random: Random::new(0), number: 0, done: Done::default(), test, seed, last: None };
-    for number in numbers.clone() {
-        case.number = number;
-        case.random = random_of(seed, test, number);
+    let mut case =
+        Case { random: Random::new(0), index: 0, done: Done::default(), test, seed, last: None };
+    for index in indices.clone() {
+        case.index = index;
+        case.random = random_of(seed, test, index);
         run(&mut case);
     }
     let done = case.done.clone();
@@ -63,8 +65,9 @@ pub fn cases(test: &'static str, cases: u64, mut run: impl FnMut(&mut Case)) -> 
     // Past the test harness, which would swallow it.
     let _ = writeln!(
         std::io::stderr(),
-        "{test}: seed {seed}, {} cases; frames on small grids {}, on large ones {}, on OPU0 {}; other calls {}; refused {refused}; {:.1} s",
-        numbers.end - numbers.start,
+        "{test}: seed {seed}, {} cases; frames on small grids {}, on large ones {}, on OPU0 {}; \
+         other calls {}; refused {refused}; {:.1} s",
+        indices.end - indices.start,
         done.small,
         done.large,
         done.opu0,
@@ -84,12 +87,12 @@ fn from_environment(name: &str) -> Option<u64> {
     Some(value.parse().unwrap_or_else(|_| panic!("{name} is {value}, which is not a number")))
 }
 
-fn random_of(seed: u64, test: &str, number: u64) -> Random {
-    let mut start = Random::new(seed).number();
+fn random_of(seed: u64, test: &str, index: u64) -> Random {
+    let mut start = Random::new(seed).u64();
     for byte in test.bytes() {
-        start = Random::new(start ^ u64::from(byte)).number();
+        start = Random::new(start ^ u64::from(byte)).u64();
     }
-    Random::new(Random::new(start ^ number).number())
+    Random::new(Random::new(start ^ index).u64())
 }
 
 impl Drop for Case {
@@ -98,9 +101,9 @@ impl Drop for Case {
         if !std::thread::panicking() {
             return;
         }
-        let (test, seed, number) = (self.test, self.seed, self.number);
-        eprintln!("{test} failed in case {number} of seed {seed}. To run it again:");
-        eprintln!("  SEED={seed} CASE={number} cargo test -p second --test agree {test}");
+        let (test, seed, index) = (self.test, self.seed, self.index);
+        eprintln!("{test} failed in case {index} of seed {seed}. To run it again:");
+        eprintln!("  SEED={seed} CASE={index} cargo test -p second --test agree {test}");
         if let Some(call) = &self.last {
             eprintln!("The last call was\n{call}");
         }
@@ -108,10 +111,15 @@ impl Drop for Case {
 }
 
 impl Case {
-    pub fn source_new(&mut self, settings: Settings, first: u32, kind: u8) -> Result<Source, u32> {
-        self.last = Some(Call::NewSource(settings, first, kind));
-        let theirs = odu0::Source::new(settings_of(settings), first, kind);
-        let ours = Source::new(settings, first, kind);
+    pub fn source_new(
+        &mut self,
+        settings: Settings,
+        first: u32,
+        payload_type: u8,
+    ) -> Result<Source, u32> {
+        self.last = Some(Call::NewSource(settings, first, payload_type));
+        let theirs = odu0::Source::new(settings_of(settings), first, payload_type);
+        let ours = Source::new(settings, first, payload_type);
         let theirs = theirs.map(back).map_err(odu0::Refusal::number);
         assert_eq!(theirs, ours, "a new source: library, second");
         self.count_other(ours.as_ref().err());
@@ -126,10 +134,15 @@ impl Case {
         client: &[u8],
         frame: &mut [u8],
     ) -> Result<(), u32> {
-        self.last = Some(Call::Source(settings, state.clone(), next, client.to_vec(), frame.to_vec()));
-        let mut their_client = Lent::new(self.number, client);
-        let mut their_frame = Lent::new(self.number, frame);
-        let mut their_state = odu0::Source { count: state.count, number: state.number, kind: state.kind };
+        self.last =
+            Some(Call::Source(settings, state.clone(), next, client.to_vec(), frame.to_vec()));
+        let mut their_client = Lent::new(self.index, client);
+        let mut their_frame = Lent::new(self.index, frame);
+        let mut their_state = odu0::Source {
+            count: state.count,
+            multiframe: state.multiframe,
+            payload_type: state.payload_type,
+        };
         let theirs = their_state
             .call(settings_of(settings), next, their_client.lent(), their_frame.lent())
             .map_err(odu0::Refusal::number);
@@ -142,7 +155,13 @@ impl Case {
         ours
     }
 
-    pub fn keeper(&mut self, settings: Settings, state: &mut Keeper, p: u32, q: u32) -> Result<u32, u32> {
+    pub fn keeper(
+        &mut self,
+        settings: Settings,
+        state: &mut Keeper,
+        p: u32,
+        q: u32,
+    ) -> Result<u32, u32> {
         self.last = Some(Call::Keeper(settings, state.clone(), p, q));
         let mut their_state = odu0::Keeper { remainder: state.remainder };
         let theirs = their_state.call(settings_of(settings), p, q).map_err(odu0::Refusal::number);
@@ -162,10 +181,11 @@ impl Case {
         tally: &mut Tally,
     ) -> Result<(Standing, u32), u32> {
         self.last = Some(Call::Sink(settings, state.clone(), frame.to_vec(), out.to_vec(), *tally));
-        let mut their_frame = Lent::new(self.number, frame);
-        let mut their_out = Lent::new(self.number, out);
+        let mut their_frame = Lent::new(self.index, frame);
+        let mut their_out = Lent::new(self.index, out);
         let mut their_state = odu0::Sink { count: state.count, word: state.word };
-        let mut their_tally = odu0::Tally { frames: tally.frames, bad: tally.bad, bytes: tally.bytes };
+        let mut their_tally =
+            odu0::Tally { frames: tally.frames, bad: tally.bad, bytes: tally.bytes };
         let theirs = their_state
             .call(settings_of(settings), their_frame.lent(), their_out.lent(), &mut their_tally)
             .map(|taken| (standing_of(taken.standing), taken.handed))
@@ -174,13 +194,14 @@ impl Case {
         assert_eq!(theirs, ours, "the answer: library, second");
         let their_state = Sink { count: their_state.count, word: their_state.word };
         assert_eq!(their_state, *state, "the state: library, second");
-        let their_tally = Tally { frames: their_tally.frames, bad: their_tally.bad, bytes: their_tally.bytes };
+        let their_tally =
+            Tally { frames: their_tally.frames, bad: their_tally.bad, bytes: their_tally.bytes };
         assert_eq!(their_tally, *tally, "the tally: library, second");
         their_frame.must_be("frame", frame);
         their_out.must_be("output", out);
         self.count_frame(settings, ours.err());
         if let Ok((standing, _)) = ours {
-            self.done.standings[index(standing)] += 1;
+            self.done.standings[place(standing)] += 1;
         }
         ours
     }
@@ -203,11 +224,11 @@ impl Case {
 }
 
 pub fn settings_of(settings: Settings) -> odu0::Settings {
-    odu0::Settings { k: settings.k, lo: settings.lo, hi: settings.hi }
+    odu0::Settings::new(settings.k, settings.lo, settings.hi)
 }
 
 fn back(state: odu0::Source) -> Source {
-    Source { count: state.count, number: state.number, kind: state.kind }
+    Source { count: state.count, multiframe: state.multiframe, payload_type: state.payload_type }
 }
 
 fn standing_of(standing: odu0::Standing) -> Standing {
@@ -221,7 +242,8 @@ fn standing_of(standing: odu0::Standing) -> Standing {
     }
 }
 
-fn index(standing: Standing) -> usize {
+/// The standing's place in `Done::standings`.
+fn place(standing: Standing) -> usize {
     match standing {
         Standing::Read(_) => 0,
         Standing::Tracked(_) => 1,
@@ -242,9 +264,9 @@ pub struct Lent {
 const BEHIND: usize = 24;
 
 impl Lent {
-    /// The case's number moves the buffer's address, so that every one of 16 comes up.
-    pub fn new(number: u64, bytes: &[u8]) -> Lent {
-        let before = BEHIND + number as usize % 16;
+    /// The case's index moves the buffer's address, so that every one of 16 comes up.
+    pub fn new(index: u64, bytes: &[u8]) -> Lent {
+        let before = BEHIND + index as usize % 16;
         let mut all = vec![0xA5; before + bytes.len() + BEHIND];
         all[before..before + bytes.len()].copy_from_slice(bytes);
         Lent { bytes: all, before, length: bytes.len() }
@@ -271,8 +293,11 @@ impl Lent {
 impl fmt::Display for Call {
     fn fmt(&self, f: &mut fmt::Formatter<'_>) -> fmt::Result {
         match self {
-            Call::NewSource(settings, first, kind) => {
-                write!(f, "  a new source; {settings:?}; first {first}, kind {kind}")
+            Call::NewSource(settings, first, payload_type) => {
+                write!(
+                    f,
+                    "  a new source; {settings:?}; first {first}, payload type {payload_type}"
+                )
             }
             Call::Source(settings, state, next, client, frame) => {
                 writeln!(f, "  a source call; {settings:?}; {state:?}; next {next}")?;

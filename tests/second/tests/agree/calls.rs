@@ -22,7 +22,11 @@ fn random_sink_calls() {
     });
     if all_cases() {
         assert!(done.standings.iter().all(|times| *times > 1000), "{:?}", done.standings);
-        assert!([1, 2, 8, 9].iter().all(|no| done.refused[*no] > 1000), "{:?}", done.refused);
+        assert!(
+            [1, 2, 8, 9].iter().all(|number| done.refused[*number] > 1000),
+            "{:?}",
+            done.refused
+        );
     }
 }
 
@@ -33,13 +37,13 @@ fn random_source_calls() {
         let settings = any_settings(random);
         let mut state = Source {
             count: any_count(random, settings),
-            number: match random.below(4) {
+            multiframe: match random.below(4) {
                 0 => 0,
                 1 => random.of(&[255, 256, 257, 511, 512, 65535, 65536, u32::MAX]),
                 2 => random.u32(),
                 _ => random.from_to(0, 255),
             },
-            kind: random.u32() as u8,
+            payload_type: random.u32() as u8,
         };
         let next = match random.below(4) {
             0 => any_count(random, settings),
@@ -50,11 +54,16 @@ fn random_source_calls() {
         let length = any_length(random, settings.frame());
         let mut frame = random.bytes(length);
         let _ = case.source(settings, &mut state, next, &client, &mut frame);
-        let (first, kind) = (any_count(&mut case.random, settings), case.random.u32() as u8);
-        let _ = case.source_new(settings, first, kind);
+        let (first, payload_type) =
+            (any_count(&mut case.random, settings), case.random.u32() as u8);
+        let _ = case.source_new(settings, first, payload_type);
     });
     if all_cases() {
-        assert!([1, 2, 5, 6, 7, 8].iter().all(|no| done.refused[*no] > 1000), "{:?}", done.refused);
+        assert!(
+            [1, 2, 5, 6, 7, 8].iter().all(|number| done.refused[*number] > 1000),
+            "{:?}",
+            done.refused
+        );
     }
 }
 
@@ -75,7 +84,11 @@ fn hostile_states_on_large_grids() {
     });
     if all_cases() {
         let [_, tracked, paired, _, waiting, outside] = done.standings;
-        assert!([tracked, paired, waiting, outside].iter().all(|times| *times > 1000), "{:?}", done.standings);
+        assert!(
+            [tracked, paired, waiting, outside].iter().all(|times| *times > 1000),
+            "{:?}",
+            done.standings
+        );
     }
 }
 
@@ -85,7 +98,7 @@ fn buffers_of_every_length() {
     cases("buffers_of_every_length", 1, |case| {
         for k in 1..=4 {
             for (lo, hi) in [(0, 4 * k), (2, 3), (0, 0)] {
-                let settings = Settings { k, lo, hi };
+                let settings = Settings::new(k, lo, hi);
                 for frame in 0..4 * k as usize + 20 {
                     for other in 0..4 * k as usize + 6 {
                         lend(case, settings, frame, other);
@@ -106,7 +119,7 @@ fn lend(case: &mut Case, settings: Settings, frame: usize, other: usize) {
     let random = &mut case.random;
     let count = count_inside(random, settings);
     let (mut frame, mut other) = (random.bytes(frame), random.bytes(other));
-    let mut source = Source { count, number: 0, kind: 0xFF };
+    let mut source = Source { count, multiframe: 0, payload_type: 0xFF };
     let next = next_count(random, settings, count);
     let _ = case.source(settings, &mut source, next, &other, &mut frame);
     let mut sink = Sink { count: Some(count), word: None };
@@ -116,14 +129,14 @@ fn lend(case: &mut Case, settings: Settings, frame: usize, other: usize) {
 #[test]
 fn tallies_near_the_largest() {
     cases("tallies_near_the_largest", 1, |case| {
-        let settings = Settings { k: 2, lo: 0, hi: 8 };
+        let settings = Settings::new(2, 0, 8);
         for left in (0..=10).chain([u32::MAX]) {
             for count in 0..=8 {
                 for control in [[0; 3], [0xFF; 3]] {
                     let mut frame = case.random.bytes(16);
                     put_control(settings, &mut frame, control);
-                    let number = u32::MAX - left;
-                    let mut tally = Tally { frames: number, bad: number, bytes: number };
+                    let value = u32::MAX - left;
+                    let mut tally = Tally { frames: value, bad: value, bytes: value };
                     let mut state = Sink { count: Some(count), word: None };
                     let mut out = case.random.bytes(8);
                     for _ in 0..3 {

@@ -1,9 +1,10 @@
-//! What the calls are given: random arguments, most of them near what is accepted or expected, and hostile ones.
+//! What the calls are given: random arguments, most of them near what is accepted or expected, and
+//! hostile ones.
 
 use second::{check, pattern, possible, word, Random, Settings, Sink, Tally};
 
 /// The widest window.
-pub const WIDE: Settings = Settings { k: 3808, lo: 0, hi: 15232 };
+pub const WIDE: Settings = Settings::new(3808, 0, 15232);
 
 /// Changes that have a pattern.
 const CHANGES: [i64; 5] = [0, 1, -1, 2, -2];
@@ -21,20 +22,21 @@ pub fn small_settings(random: &mut Random) -> Settings {
         4 => random.of(&[(0, 0), (s, s)]),
         _ => (one.min(two), one.max(two)),
     };
-    Settings { k, lo, hi }
+    Settings::new(k, lo, hi)
 }
 
-/// Settings of every kind, most of them accepted.
+/// Settings of every sort, most of them accepted.
 pub fn any_settings(random: &mut Random) -> Settings {
     let mut settings = small_settings(random);
     if random.once_in(10) {
         // At 2^30 and above, 4 × K does not fit 32 bits.
         let odd = random.u32();
-        let grids = [0, 3808, 3809, 3810, 0x3FFF_FFFF, 1 << 30, (1 << 30) + 1, 1 << 31, u32::MAX, odd];
+        let grids =
+            [0, 3808, 3809, 3810, 0x3FFF_FFFF, 1 << 30, (1 << 30) + 1, 1 << 31, u32::MAX, odd];
         settings.k = random.of(&grids);
     }
     if random.once_in(10) {
-        let Settings { lo, hi, .. } = settings;
+        let (lo, hi) = (settings.lo, settings.hi);
         let s = settings.k.wrapping_mul(4);
         let odd = (random.u32(), random.u32());
         let windows = [
@@ -61,7 +63,8 @@ pub fn count_inside(random: &mut Random, settings: Settings) -> u32 {
     }
 }
 
-/// Mostly a count inside the window, else one beside it, one that only equals such a count modulo 16,384 or 65,536, or any.
+/// Mostly a count inside the window, else one beside it, one that only equals such a count modulo
+/// 16,384 or 65,536, or any.
 pub fn any_count(random: &mut Random, settings: Settings) -> u32 {
     let inside = count_inside(random, settings);
     match random.below(24) {
@@ -94,7 +97,7 @@ pub fn word_after(random: &mut Random, settings: Settings, count: u32) -> u32 {
     word(count, next)
 }
 
-/// A sink's state of any kind: counts outside the window, words with II = DI, words above 16 bits.
+/// A sink's state of any sort: counts outside the window, words with II = DI, words above 16 bits.
 pub fn any_sink(random: &mut Random, settings: Settings) -> Sink {
     let count = any_count(random, settings);
     let inside = count_inside(random, settings);
@@ -105,36 +108,41 @@ pub fn any_sink(random: &mut Random, settings: Settings) -> Sink {
         3 => word(0, inside % 16384),
         _ => word_after(random, settings, inside),
     };
-    Sink { count: (!random.once_in(4)).then_some(count), word: (!random.once_in(3)).then_some(word) }
+    Sink {
+        count: (!random.once_in(4)).then_some(count),
+        word: (!random.once_in(3)).then_some(word),
+    }
 }
 
 pub fn any_tally(random: &mut Random) -> Tally {
-    let mut number = || match random.below(4) {
+    let mut value = || match random.below(4) {
         0 => 0,
         1 => u32::MAX - random.from_to(0, 12),
         2 => u32::MAX,
         _ => random.u32(),
     };
-    Tally { frames: number(), bad: number(), bytes: number() }
+    Tally { frames: value(), bad: value(), bytes: value() }
 }
 
 /// Three control bytes that a sink in this state may well follow, or not.
 pub fn any_control(random: &mut Random, settings: Settings, state: &Sink) -> [u8; 3] {
-    let kind = random.below(16);
-    let old = match (kind, state) {
+    let choice = random.below(16);
+    let old = match (choice, state) {
         // A count which the remembered word may have announced.
-        (0..=4, Sink { word: Some(before), .. }) if before & 1 != before >> 1 & 1 => random.of(&possible(*before)),
+        (0..=4, Sink { word: Some(before), .. }) if before & 1 != before >> 1 & 1 => {
+            random.of(&possible(*before))
+        }
         (5..=9, Sink { count: Some(count), .. }) => *count,
         _ => count_inside(random, settings),
     };
-    let word = match kind {
+    let word = match choice {
         10 => random.u32() & 0xFFFF,
         11 => return random.of(&[[0x00; 3], [0xFF; 3], [0x4B, 0xB6, 0x38], [0x4B, 0x8A, 0x19]]),
         12 => return random.bytes(3).try_into().unwrap(),
         _ => word_after(random, settings, old),
     };
     let mut control = [(word >> 8) as u8, word as u8, check(word) as u8];
-    if kind == 13 {
+    if choice == 13 {
         let times = random.from_to(1, 5);
         flip(random, &mut control, times);
     }
@@ -181,18 +189,20 @@ pub fn any_length(random: &mut Random, right: u64) -> usize {
     length as usize
 }
 
-/// A word's C bits exclusive-or any of the four patterns: the counts that it continues, and those that it would with the other sign.
+/// A word's C bits exclusive-or any of the four patterns: the counts that it continues, and those
+/// that it would with the other sign.
 pub fn near_misses(word: u32) -> [u32; 4] {
     [1, -1, 2, -2].map(|change| word >> 2 & 0x3FFF ^ pattern(change))
 }
 
-/// Settings on a grid so large that the window can hold a count and others that a pattern leads to from it.
+/// Settings on a grid so large that the window can hold a count and others that a pattern leads to
+/// from it.
 pub fn large_settings(random: &mut Random) -> Settings {
     let k = if random.once_in(2) { 3808 } else { random.from_to(1400, 3807) };
     let (one, two) = (random.from_to(0, 4 * k), random.from_to(0, 4 * k));
     match random.below(3) {
-        0 => Settings { k, lo: one.min(two), hi: one.max(two) },
-        _ => Settings { k, lo: 0, hi: 4 * k },
+        0 => Settings::new(k, one.min(two), one.max(two)),
+        _ => Settings::new(k, 0, 4 * k),
     }
 }
 

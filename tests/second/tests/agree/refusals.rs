@@ -11,8 +11,9 @@ fn settings_for_refusals() -> Vec<Settings> {
     for k in [0, 1, 2, 3809, 1 << 30, u32::MAX] {
         let s = 4u32.wrapping_mul(k);
         let more = s.wrapping_add(1);
-        for (lo, hi) in [(0, s), (s, s), (0, 0), (1, 3), (1, 0), (0, more), (more, s), (more, more), (0, u32::MAX)] {
-            all.push(Settings { k, lo, hi });
+        let wrong = [(1, 0), (0, more), (more, s), (more, more), (0, u32::MAX)];
+        for (lo, hi) in [(0, s), (s, s), (0, 0), (1, 3)].into_iter().chain(wrong) {
+            all.push(Settings::new(k, lo, hi));
         }
     }
     all
@@ -30,7 +31,7 @@ fn counts(settings: Settings) -> [u32; 5] {
     [settings.lo, settings.hi, settings.lo.wrapping_sub(1), settings.hi.wrapping_add(1), u32::MAX]
 }
 
-/// Each number of a call was met alone, each two of them together, and none at all.
+/// Each of a call's refusals, by its number, was met alone, each two together, and none at all.
 fn all_met(numbers: &[u32], met: &BTreeSet<Vec<u32>>) {
     if !all_cases() {
         return;
@@ -59,9 +60,11 @@ fn refusals_of_the_sink() {
                     let state = any_sink(&mut case.random, settings);
                     let (frame, out) = (case.random.bytes(frame), case.random.bytes(out));
                     let tally = any_tally(&mut case.random);
-                    let (mut new_state, mut new_out, mut new_tally) = (state.clone(), out.clone(), tally);
+                    let (mut new_state, mut new_out, mut new_tally) =
+                        (state.clone(), out.clone(), tally);
                     let applying = state.refusals(settings, &frame, &out);
-                    let answer = case.sink(settings, &mut new_state, &frame, &mut new_out, &mut new_tally);
+                    let answer =
+                        case.sink(settings, &mut new_state, &frame, &mut new_out, &mut new_tally);
                     lowest(&applying, &answer);
                     if answer.is_err() {
                         assert!((new_state, new_out, new_tally) == (state, out, tally));
@@ -87,11 +90,18 @@ fn refusals_of_the_source() {
                 for next in counts(settings) {
                     for client in lengths(u64::from(count)) {
                         for frame in lengths(settings.frame()) {
-                            let state = Source { count, number: case.random.u32(), kind: 7 };
+                            let state =
+                                Source { count, multiframe: case.random.u32(), payload_type: 7 };
                             let (client, frame) = (vec![0x11; client], vec![0x22; frame]);
                             let (mut new_state, mut new_frame) = (state.clone(), frame.clone());
                             let applying = state.refusals(settings, next, &client, &frame);
-                            let answer = case.source(settings, &mut new_state, next, &client, &mut new_frame);
+                            let answer = case.source(
+                                settings,
+                                &mut new_state,
+                                next,
+                                &client,
+                                &mut new_frame,
+                            );
                             lowest(&applying, &answer);
                             if answer.is_err() {
                                 assert!((new_state, new_frame) == (state, frame));

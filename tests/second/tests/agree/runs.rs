@@ -17,8 +17,8 @@ struct Written {
 /// A source run: so many accepted calls, with refused ones between them.
 fn source_run(case: &mut Case, settings: Settings, frames: usize) -> Vec<Written> {
     let first = count_inside(&mut case.random, settings);
-    let kind = case.random.u32() as u8;
-    let mut source = case.source_new(settings, first, kind).unwrap();
+    let payload_type = case.random.u32() as u8;
+    let mut source = case.source_new(settings, first, payload_type).unwrap();
     // Some runs stay at a count for long, some move with nearly every frame.
     let rest = case.random.of(&[0, 2, 8]);
     let mut written = Vec::new();
@@ -39,7 +39,7 @@ fn source_run(case: &mut Case, settings: Settings, frames: usize) -> Vec<Written
             assert!(refused.is_err());
         }
         case.source(settings, &mut source, next, &load, &mut frame).unwrap();
-        assert_eq!((source.count, source.number), (next, (n as u32 + 1) % 256));
+        assert_eq!((source.count, source.multiframe), (next, (n as u32 + 1) % 256));
         written.push(Written { frame: frame.clone(), load, old, next });
     }
     written
@@ -68,7 +68,8 @@ fn harm(case: &mut Case, settings: Settings, frame: &mut [u8]) {
     }
 }
 
-/// The order in which frames arrive: some are lost, some come twice or once more later, some change places.
+/// The order in which frames arrive: some are lost, some come twice or once more later, some change
+/// places.
 fn arrivals(random: &mut Random, frames: usize, trouble: u64) -> Vec<usize> {
     let mut order = Vec::new();
     for frame in 0..frames {
@@ -83,10 +84,12 @@ fn arrivals(random: &mut Random, frames: usize, trouble: u64) -> Vec<usize> {
     order
 }
 
-/// One source and three sinks with one tally, over a line that harms, loses, doubles and reorders frames.
+/// One source and three sinks with one tally, over a line that harms, loses, doubles and reorders
+/// frames.
 fn rough_line(case: &mut Case, settings: Settings, frames: usize) {
     let written = source_run(case, settings, frames);
-    let mut tally = if case.random.once_in(4) { any_tally(&mut case.random) } else { Tally::default() };
+    let mut tally =
+        if case.random.once_in(4) { any_tally(&mut case.random) } else { Tally::default() };
     for sink in 0..3 {
         let mut state = if sink == 0 { Sink::new() } else { any_sink(&mut case.random, settings) };
         let more = case.random.below(4) as usize;
@@ -155,7 +158,8 @@ fn a_clean_run_on_opu0() {
     });
 }
 
-/// The first claim: after two unharmed frames a sink in any state holds the source's count, and then goes with a new sink from frame 1.
+/// The first claim: after two unharmed frames a sink in any state holds the source's count, and
+/// then goes with a new sink from frame 1.
 fn back_after_two_frames(case: &mut Case, settings: Settings, frames: usize) {
     let written = source_run(case, settings, frames);
     // Frames are numbered from 1: frame n is written[n - 1].
@@ -189,15 +193,23 @@ fn back_after_two_frames(case: &mut Case, settings: Settings, frames: usize) {
                 assert_eq!(sink.count, Some(*next), "after frame {n}, from frame {from}");
             }
             if n > from + 1 {
-                assert_eq!(answer, Ok((announced, load.len() as u32)), "frame {n}, from frame {from}");
+                assert_eq!(
+                    answer,
+                    Ok((announced, load.len() as u32)),
+                    "frame {n}, from frame {from}"
+                );
                 assert!(out[..load.len()] == load[..], "load {n}, from frame {from}");
-                assert!(out[load.len()..] == before[load.len()..], "behind load {n}, from frame {from}");
+                assert!(
+                    out[load.len()..] == before[load.len()..],
+                    "behind load {n}, from frame {from}"
+                );
             }
         }
     }
 }
 
-/// The second claim: with at most three wrong control bits in each frame, a new sink never holds a false count.
+/// The second claim: with at most three wrong control bits in each frame, a new sink never holds a
+/// false count.
 fn no_false_count(case: &mut Case, settings: Settings, frames: usize) {
     let written = source_run(case, settings, frames);
     let m = 1 + case.random.below(frames as u64) as usize;
@@ -231,13 +243,14 @@ fn no_false_count(case: &mut Case, settings: Settings, frames: usize) {
     }
 }
 
-/// Watches a claim on source runs of small settings, from so many frames on, and every tenth time on OPU0's and on large settings too.
+/// Watches a claim on source runs of small settings, from so many frames on, and every tenth time
+/// on OPU0's and on large settings too.
 fn watch(name: &'static str, least: u32, claim: fn(&mut Case, Settings, usize)) {
     cases(name, 3_000, |case| {
         let settings = small_settings(&mut case.random);
         let frames = case.random.from_to(least, 60) as usize;
         claim(case, settings, frames);
-        if case.number % 10 == 0 {
+        if case.index % 10 == 0 {
             claim(case, Settings::OPU0, 6);
             let settings = large_settings(&mut case.random);
             claim(case, settings, 6);

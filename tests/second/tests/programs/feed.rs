@@ -13,8 +13,14 @@ pub struct Written {
     pub said: String,
 }
 
-/// Runs a program of target/bin with these arguments. It is fed the pieces one after the other, with a pause after each where one is asked for.
-pub fn run(name: &str, arguments: &[&str], pieces: Vec<Vec<u8>>, pause: Option<Duration>) -> Written {
+/// Runs a program of target/bin with these arguments. It is fed the pieces one after the other,
+/// with a pause after each where one is asked for.
+pub fn run(
+    name: &str,
+    arguments: &[&str],
+    pieces: Vec<Vec<u8>>,
+    pause: Option<Duration>,
+) -> Written {
     let path = format!("{}/../../target/bin/{name}", env!("CARGO_MANIFEST_DIR"));
     let mut program = Command::new(&path)
         .args(arguments)
@@ -24,7 +30,8 @@ pub fn run(name: &str, arguments: &[&str], pieces: Vec<Vec<u8>>, pause: Option<D
         .spawn()
         .unwrap_or_else(|error| panic!("{path}: {error}. Run `rt check` in the repository first."));
     let mut input = program.stdin.take().unwrap();
-    // A thread of its own feeds the program, so that neither waits for the other. A program that wants no input may have ended.
+    // A thread of its own feeds the program, so that neither waits for the other. A program that
+    // wants no input may have ended.
     let feeder = thread::spawn(move || {
         for piece in pieces {
             match input.write_all(&piece) {

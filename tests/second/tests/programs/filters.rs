@@ -1,4 +1,5 @@
-//! The filters odu0map and odu0demap against the second implementation's source, rate keeper and sink at OPU0's size.
+//! The filters odu0map and odu0demap against the second implementation's source, rate keeper and
+//! sink at OPU0's size.
 
 use crate::feed::{pieces, run, Written};
 use second::{Keeper, Random, Settings, Sink, Source, Tally};
@@ -26,24 +27,28 @@ fn mapped(input: &[u8], (p, q): (u32, u32)) -> Written {
     Written { out, said: left("odu0map", rest.len()) + &totals }
 }
 
-/// What odu0demap writes, by the second implementation: the client bytes, a line for each change of standing, and the tally.
+/// What odu0demap writes, by the second implementation: the client bytes, a line for each change of
+/// standing, and the tally.
 fn demapped(input: &[u8]) -> Written {
     let (mut sink, mut tally, mut before) = (Sink::new(), Tally::default(), None);
     let (mut out, mut said) = (Vec::new(), String::new());
     let frames = input.chunks_exact(FRAME);
     let rest = frames.remainder().len();
-    for (number, frame) in (1..).zip(frames) {
+    for (frame_number, frame) in (1..).zip(frames) {
         let mut bytes = vec![0; OPU0.hi as usize];
         let (standing, handed) = sink.call(OPU0, frame, &mut bytes, &mut tally).unwrap();
         out.extend(&bytes[..handed as usize]);
         if before != Some(standing) {
             let count = standing.count().map_or("-".to_string(), |count| count.to_string());
-            said += &format!("frame {number}: {} {count}\n", standing.word());
+            said += &format!("frame {frame_number}: {} {count}\n", standing.name());
         }
         before = Some(standing);
     }
     said += &left("odu0demap", rest);
-    said += &format!("odu0demap: frames {}, BADCHECK {}, bytes {}\n", tally.frames, tally.bad, tally.bytes);
+    said += &format!(
+        "odu0demap: frames {}, BADCHECK {}, bytes {}\n",
+        tally.frames, tally.bad, tally.bytes
+    );
     Written { out, said }
 }
 
@@ -92,7 +97,11 @@ fn mapping_at_many_rates() {
         let most = random.of(&[5000, 70_000, 1_000_000]);
         let fed = pieces(&mut random, &input, most);
         let written = run("odu0map", &[&p.to_string(), &q.to_string()], fed, None);
-        assert!(written == mapped(&input, (p, q)), "case {case}: rate {p} / {q}, {length} bytes: {}", written.said);
+        assert!(
+            written == mapped(&input, (p, q)),
+            "case {case}: rate {p} / {q}, {length} bytes: {}",
+            written.said
+        );
     }
 }
 
@@ -120,7 +129,7 @@ fn demapping_what_was_harmed() {
     }
 }
 
-/// Through both filters: a new sink hands out every load but the first, whose count it did not know.
+/// Through both filters: a new sink hands out every load but the first, for want of its count.
 #[test]
 fn there_and_back() {
     let input = Random::new(14).bytes(14407 * 50);
@@ -128,7 +137,11 @@ fn there_and_back() {
     let back = run("odu0demap", &[], vec![frames.out], None);
     assert!(input[14407..].starts_with(&back.out));
     assert!(back.said.starts_with("frame 1: READ 14407\n"), "{}", back.said);
-    assert!(back.said.ends_with("odu0demap: frames 49, BADCHECK 0, bytes 691551\n"), "{}", back.said);
+    assert!(
+        back.said.ends_with("odu0demap: frames 49, BADCHECK 0, bytes 691551\n"),
+        "{}",
+        back.said
+    );
 }
 
 #[test]
@@ -146,31 +159,40 @@ fn slow_pieces() {
 #[test]
 fn short_and_empty_input() {
     assert_eq!(run("odu0map", &[], vec![], None).said, "odu0map: frames 0, bytes 0\n");
-    assert_eq!(run("odu0demap", &[], vec![], None).said, "odu0demap: frames 0, BADCHECK 0, bytes 0\n");
+    assert_eq!(
+        run("odu0demap", &[], vec![], None).said,
+        "odu0demap: frames 0, BADCHECK 0, bytes 0\n"
+    );
     for length in [1, 14406] {
         let said = format!("odu0map: {length} bytes left at the end\nodu0map: frames 0, bytes 0\n");
         assert_eq!(run("odu0map", &[], vec![vec![1; length]], None), Written { out: vec![], said });
     }
     for length in [1, 15239] {
-        let said = format!("odu0demap: {length} bytes left at the end\nodu0demap: frames 0, BADCHECK 0, bytes 0\n");
-        assert_eq!(run("odu0demap", &[], vec![vec![1; length]], None), Written { out: vec![], said });
+        let said = format!(
+            "odu0demap: {length} bytes left at the end\nodu0demap: frames 0, BADCHECK 0, bytes 0\n"
+        );
+        assert_eq!(
+            run("odu0demap", &[], vec![vec![1; length]], None),
+            Written { out: vec![], said }
+        );
     }
 }
 
 #[test]
 fn wrong_arguments() {
-    let usage = "usage: odu0map [P Q], client bytes a frame as P / Q: Q from 1 to 65535, P / Q from 14405 to 14410\n";
-    let no_numbers = "odu0map: the arguments are not two decimal numbers of 32 bits\n";
+    let usage = "usage: odu0map [P Q], client bytes a frame as P / Q: Q from 1 to 65535, \
+                 P / Q from 14405 to 14410\n";
+    let not_decimal = "odu0map: the arguments are not two decimal numbers of 32 bits\n";
     let long = "1".repeat(70);
     let cases: [(&[&str], &str); 12] = [
-        (&["14407"], no_numbers),
-        (&["14407", "1", "1"], no_numbers),
-        (&["14407", ""], no_numbers),
-        (&["x", "1"], no_numbers),
-        (&["-14407", "1"], no_numbers),
-        (&["14407", "1 "], no_numbers),
-        (&["4294967296", "298130"], no_numbers),
-        (&[&long, "1"], no_numbers),
+        (&["14407"], not_decimal),
+        (&["14407", "1", "1"], not_decimal),
+        (&["14407", ""], not_decimal),
+        (&["x", "1"], not_decimal),
+        (&["-14407", "1"], not_decimal),
+        (&["14407", "1 "], not_decimal),
+        (&["4294967296", "298130"], not_decimal),
+        (&[&long, "1"], not_decimal),
         (&["14407", "0"], "odu0map: refused, divisor (number 3)\n"),
         (&["4294967295", "65536"], "odu0map: refused, divisor (number 3)\n"),
         (&["14404", "1"], "odu0map: refused, rate (number 4)\n"),
@@ -178,8 +200,17 @@ fn wrong_arguments() {
     ];
     for (arguments, message) in cases {
         let written = run("odu0map", arguments, vec![vec![0; 20_000]], None);
-        assert_eq!(written, Written { out: vec![], said: format!("{message}{usage}") }, "{arguments:?}");
+        assert_eq!(
+            written,
+            Written { out: vec![], said: format!("{message}{usage}") },
+            "{arguments:?}"
+        );
     }
-    let said = "odu0demap: it takes no argument\nusage: odu0demap, frames on standard input, client bytes on standard output\n".to_string();
-    assert_eq!(run("odu0demap", &["x"], vec![vec![0; 20_000]], None), Written { out: vec![], said });
+    let said = "odu0demap: it takes no argument\n\
+                usage: odu0demap, frames on standard input, client bytes on standard output\n"
+        .to_string();
+    assert_eq!(
+        run("odu0demap", &["x"], vec![vec![0; 20_000]], None),
+        Written { out: vec![], said }
+    );
 }

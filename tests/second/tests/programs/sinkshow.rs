@@ -4,7 +4,7 @@ use crate::feed::{pieces, run};
 use second::{Random, Settings, Sink, Tally};
 use std::time::Duration;
 
-const SETTINGS: Settings = Settings { k: 2, lo: 0, hi: 8 };
+const SETTINGS: Settings = Settings::new(2, 0, 8);
 
 const FIRST: [u8; 16] = [0, 0xAA, 0, 0, 0, 0xA6, 0x11, 0, 0, 0x0A, 0, 0x22, 0x07, 0, 0, 0x33];
 const THEN: [u8; 16] = [0, 0, 0, 0x44, 0, 0x10, 0, 0x55, 0, 0xD0, 0, 0x66, 0, 0, 0, 0x77];
@@ -22,10 +22,10 @@ fn lines(input: &[u8]) -> String {
     let mut lines = String::new();
     let frames = input.chunks_exact(16);
     let rest = frames.remainder().len();
-    for (number, frame) in (1..).zip(frames) {
+    for (frame_number, frame) in (1..).zip(frames) {
         let (standing, handed) = sink.call(SETTINGS, frame, &mut out, &mut tally).unwrap();
         let count = standing.count().map_or("-".to_string(), |count| count.to_string());
-        lines += &format!("{number} {handed} {} {count}\n", standing.word());
+        lines += &format!("{frame_number} {handed} {} {count}\n", standing.name());
     }
     if rest > 0 {
         lines += &format!("LEFT {rest}\n");
@@ -87,10 +87,18 @@ fn random_input() {
         let rest = random.below(16) as usize;
         input.extend(random.bytes(rest));
         let wanted = lines(&input);
-        assert_eq!(shown(vec![input.clone()], None), wanted, "seed {seed}, case {case}: {input:02X?}");
+        assert_eq!(
+            shown(vec![input.clone()], None),
+            wanted,
+            "seed {seed}, case {case}: {input:02X?}"
+        );
         let most = random.of(&[3, 16, 17, 40, 5000]);
         let pieces = pieces(&mut random, &input, most);
-        assert_eq!(shown(pieces, None), wanted, "seed {seed}, case {case}, in pieces: {input:02X?}");
+        assert_eq!(
+            shown(pieces, None),
+            wanted,
+            "seed {seed}, case {case}, in pieces: {input:02X?}"
+        );
     }
 }
 
@@ -102,7 +110,9 @@ fn a_long_input() {
     input.extend([0; 7]);
     let (shown, wanted) = (shown(vec![input.clone()], None), lines(&input));
     assert!(wanted.lines().count() > 100_000);
-    if let Some((line, wanted)) = shown.lines().zip(wanted.lines()).find(|(line, wanted)| line != wanted) {
+    if let Some((line, wanted)) =
+        shown.lines().zip(wanted.lines()).find(|(line, wanted)| line != wanted)
+    {
         panic!("the program: {line}, second: {wanted}");
     }
     assert_eq!(shown.len(), wanted.len());

@@ -1,5 +1,5 @@
-//! The numbers of the C interface themselves, where they say more than the Rust types: flags of every value, numbers beside a flag of 0,
-//! every number of a reply, and NULL.
+//! The fields of the C interface themselves, where they say more than the Rust types: flags of
+//! every value, what stands beside a flag of 0, every field of a reply, and NULL.
 
 use crate::both::{cases, settings_of, Lent};
 use crate::given::*;
@@ -8,8 +8,8 @@ use second::{Settings, Standing, Tally};
 use std::ptr::null_mut;
 
 #[test]
-fn numbers_of_a_sink_call() {
-    cases("numbers_of_a_sink_call", 60_000, |case| {
+fn fields_of_a_sink_call() {
+    cases("fields_of_a_sink_call", 60_000, |case| {
         let random = &mut case.random;
         let settings = any_settings(random);
         let mut state = any_sink(random, settings);
@@ -33,20 +33,29 @@ fn numbers_of_a_sink_call() {
         let mut out = random.bytes(out);
         let mut tally = any_tally(random);
 
-        let mut their_tally = odu0::Tally { frames: tally.frames, bad: tally.bad, bytes: tally.bytes };
+        let mut their_tally =
+            odu0::Tally { frames: tally.frames, bad: tally.bad, bytes: tally.bytes };
         let (mut their_frame, mut their_out) = (Lent::new(0, &frame), Lent::new(0, &out));
-        // SAFETY: the pointers are those of live buffers that do not overlap, each before its length.
+        // SAFETY: each pointer is that of a live buffer, before its length, and none overlap.
         let reply = unsafe {
             let (frame, out) = (their_frame.lent(), their_out.lent());
             let (frame, frame_len) = (frame.as_ptr(), frame.len());
             let (out, out_len) = (out.as_mut_ptr(), out.len());
-            ffi::odu0_sink_call(settings_of(settings), given, frame, frame_len, out, out_len, &mut their_tally)
+            ffi::odu0_sink_call(
+                settings_of(settings),
+                given,
+                frame,
+                frame_len,
+                out,
+                out_len,
+                &mut their_tally,
+            )
         };
         let answer = state.call(settings, &frame, &mut out, &mut tally);
 
         let (refusal, standing, count, handed) = match answer {
             Err(number) => (number, 0, None, 0),
-            Ok((standing, handed)) => (0, number(standing), standing.count(), handed),
+            Ok((standing, handed)) => (0, standing_number(standing), standing.count(), handed),
         };
         let said = || format!("{settings:?}, {given:?}, frame {frame:02X?}: {reply:?}");
         assert_eq!((reply.refusal, reply.standing), (refusal, standing), "{}", said());
@@ -56,19 +65,25 @@ fn numbers_of_a_sink_call() {
         let left = odu0::Sink::from(reply.state);
         assert_eq!((left.count, left.word), (state.count, state.word), "{}", said());
         if refusal != 0 {
-            let numbers = |sink: ffi::Sink| (sink.known, sink.count, sink.remembered, sink.word);
-            assert_eq!(numbers(reply.state), numbers(given), "a refused call returns the numbers given: {}", said());
+            let fields = |sink: ffi::Sink| (sink.known, sink.count, sink.remembered, sink.word);
+            assert_eq!(
+                fields(reply.state),
+                fields(given),
+                "a refused call returns the state given: {}",
+                said()
+            );
         }
         their_frame.must_be("frame", &frame);
         their_out.must_be("output", &out);
-        let their_tally = Tally { frames: their_tally.frames, bad: their_tally.bad, bytes: their_tally.bytes };
+        let their_tally =
+            Tally { frames: their_tally.frames, bad: their_tally.bad, bytes: their_tally.bytes };
         assert_eq!(their_tally, tally, "{}", said());
         case.count_frame(settings, answer.err());
     });
 }
 
 /// A standing's number in odu0.h.
-fn number(standing: Standing) -> u32 {
+fn standing_number(standing: Standing) -> u32 {
     match standing {
         Standing::Read(_) => 1,
         Standing::Tracked(_) => 2,
@@ -81,12 +96,13 @@ fn number(standing: Standing) -> u32 {
 
 #[test]
 fn a_buffer_of_length_0_may_be_null() {
-    let settings = odu0::Settings { k: 1, lo: 0, hi: 0 };
+    let settings = odu0::Settings::new(1, 0, 0);
     let source = odu0::Source::new(settings, 0, 7).unwrap();
     let sink = ffi::Sink::from(&odu0::Sink::new());
     let (mut tally, mut frame) = (odu0::Tally::default(), [9; 12]);
     let at = frame.as_mut_ptr();
-    // SAFETY: the pointer of a buffer of length 0 is not used; the other buffers are live and do not overlap.
+    // SAFETY: the pointer of a buffer of length 0 is not used; the other buffers are live and do
+    // not overlap.
     unsafe {
         let reply = ffi::odu0_source_call(settings, source.clone(), 0, null_mut(), 0, at, 12);
         assert_eq!(reply.refusal, 0);
@@ -96,7 +112,7 @@ fn a_buffer_of_length_0_may_be_null() {
         assert_eq!((reply.refusal, reply.standing, reply.found, reply.count), (0, 1, 1, 0));
         let reply = ffi::odu0_sink_call(settings, sink, null_mut(), 0, null_mut(), 0, &mut tally);
         assert_eq!(reply.refusal, 8);
-        let settings = odu0::Settings { hi: 1, ..settings };
+        let settings = odu0::Settings::new(1, 0, 1);
         let reply = ffi::odu0_sink_call(settings, sink, at, 12, null_mut(), 0, &mut tally);
         assert_eq!(reply.refusal, 9);
     }
@@ -105,13 +121,13 @@ fn a_buffer_of_length_0_may_be_null() {
 }
 
 #[test]
-fn numbers_of_calls_turned_back() {
+fn fields_of_calls_turned_back() {
     let settings = settings_of(Settings::OPU0);
-    // SAFETY: plain numbers.
+    // SAFETY: plain values.
     let reply = unsafe { ffi::odu0_source_new(settings, 1, 7) };
     assert_eq!(reply.refusal, 5);
-    assert_eq!(reply.state, odu0::Source { count: 0, number: 0, kind: 0 });
-    // SAFETY: plain numbers.
+    assert_eq!(reply.state, odu0::Source { count: 0, multiframe: 0, payload_type: 0 });
+    // SAFETY: plain values.
     let reply = unsafe { ffi::odu0_keeper_call(settings, 18671875, 1296, 1296) };
     assert_eq!((reply.refusal, reply.count, reply.remainder), (5, 0, 1296));
 }
