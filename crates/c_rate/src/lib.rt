@@ -1,4 +1,5 @@
-// The rate keeper for C and Rust: numbers in, numbers out. All meaning is in the crates below; here values are only converted.
+// The rate keeper for C and Rust: numbers in, numbers out. All meaning is in the crates below; here
+// values are only converted.
 use gmp_rate::KeeperAnswer;
 use gmp_rate::KeeperResult;
 use gmp_refusal::Verdict;

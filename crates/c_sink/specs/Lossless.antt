@@ -13,7 +13,7 @@ use Rattle.c_sink.specs.declared.SinkNumbers.{SinkNumbers}
 use Rattle.c_sink.specs.declared.SinkReply.{SinkReply}
 use Rattle.c_sink.specs.Numbers.{countFrom, stateFrom, stateNumbers, sinkReplyBy, tallyFrom, tallyNumbers}
 
--- the word of a standing's number
+-- the name of a standing's number
 abbrev pub nameFrom : ℕ → List ℕ
 nameFrom k =
     cond (eqb k 1) READ

@@ -1,4 +1,5 @@
--- The sink's values as the plain numbers that C and Rust see, and back. What may be missing is a flag, 0 for none, beside a number. Assumes nothing.
+-- The sink's values as the plain numbers that C and Rust see, and back. What may be missing is a
+-- flag, 0 for none, beside a number. Assumes nothing.
 use mathlib.Core.Path.{_≡_}
 use mathlib.Core.Bool.{cond}
 use mathlib.Core.List.{List, [], _∷_}
@@ -51,7 +52,8 @@ abbrev pub stateNumbers : SinkState → SinkNumbers
 stateNumbers z =
     record { known = countFlag (z .count); count = countValue (z .count); remembered = wordFlag (z .word); word = wordValue (z .word) }
 
--- The reply of a sink call from the numbers x. A refused call returns the very numbers that it was given.
+-- The reply of a sink call from the numbers x. A refused call returns the very numbers that it was
+-- given.
 abbrev pub sinkReplyBy : SinkNumbers → Answer Finding → ℕ → SinkState → SinkReply
 sinkReplyBy x (accepted f) handed z =
     record {
@@ -76,7 +78,8 @@ tallyFrom l = record { frames = getD l 0 0; bad = getD l 1 0; bytes = getD l 2 0
 abbrev pub tallyNumbers : Tally → List ℕ
 tallyNumbers y = y .frames ∷ y .bad ∷ y .bytes ∷ []
 
--- What the sink call promises: its reply, every byte of the output buffer, and the three numbers of the tally.
+-- What the sink call promises: its reply, every byte of the output buffer, and the three numbers of
+-- the tally.
 pub record SinkCallPromise (s : Settings) (x : SinkNumbers) (frame out tally : List ℕ) (r : SinkReply) (out-after tally-after : List ℕ) : Type 0 where
   pub reply : r ≡ sinkReply s x (stateFrom x) frame out
   pub out-buffer : out-after ≡ sinkOut s (stateFrom x) frame out

@@ -1,4 +1,5 @@
-// The sink for C and Rust: numbers and buffers in, numbers out. All meaning is in the crates below; here values are only converted.
+// The sink for C and Rust: numbers and buffers in, numbers out. All meaning is in the crates below;
+// here values are only converted.
 use card_tally::Tally;
 use gmp_control::Remembered;
 use gmp_refusal::Verdict;
@@ -21,7 +22,8 @@ pub struct SinkNumbers {
     pub word: u32,
 }
 
-// The refusal's number or 0, the standing's number or 0, what it found, the bytes handed out, and the sink's state.
+// The refusal's number or 0, the standing's number or 0, what it found, the bytes handed out, and
+// the sink's state.
 #[repr(C)]
 pub struct SinkReply {
     pub refusal: u32,

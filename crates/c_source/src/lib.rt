@@ -1,4 +1,5 @@
-// The source for C and Rust: numbers and buffers in, numbers out. All meaning is in the crates below; here values are only converted.
+// The source for C and Rust: numbers and buffers in, numbers out. All meaning is in the crates
+// below; here values are only converted.
 use gmp_refusal::Verdict;
 use gmp_settings::Settings;
 use gmp_source::SourceStart;

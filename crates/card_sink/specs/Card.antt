@@ -1,4 +1,5 @@
--- The sink's call with the card's tally (01, "Sink"): "Only accepted sink calls change it." Assumes nothing.
+-- The sink's call with the card's tally (01, "Sink"): "Only accepted sink calls change it." Assumes
+-- nothing.
 use mathlib.Core.Path.{_≡_}
 use mathlib.Core.Bool.{cond}
 use mathlib.Core.List.{List}

@@ -1,5 +1,5 @@
--- The tally (01, "Sink"): "One tally for the whole card ..: frames taken, BADCHECK frames, bytes handed out, 32 bits each, staying at the
--- largest number." Assumes nothing.
+-- The tally (01, "Sink"): "One tally for the whole card ..: frames taken, BADCHECK frames, bytes
+-- handed out, 32 bits each, staying at the largest number." Assumes nothing.
 use mathlib.Core.Bool.{cond}
 use Prim.Native.Nat.{ℕ, _+_, _≤_}
 use lib.Dec.{leb}

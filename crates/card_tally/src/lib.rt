@@ -1,4 +1,5 @@
-// The card's tally: frames taken, BADCHECK frames and bytes handed out, each staying at its largest number.
+// The card's tally: frames taken, BADCHECK frames and bytes handed out, each staying at its largest
+// number.
 ghost use mathlib.Core.Path.{_≡_};
 ghost use Prim.Native.Nat.{_+_};
 ghost use Rattle.card_tally.specs.Tally.{cut, added};

@@ -1,5 +1,5 @@
--- Along a source run: a sink that holds the true count keeps it and delivers each frame; two frames bring any sink to it; no frame with few wrong
--- control bits makes it false. Assumes nothing.
+-- Along a source run: a sink that holds the true count keeps it and delivers each frame; two frames
+-- bring any sink to it; no frame with few wrong control bits makes it false. Assumes nothing.
 use mathlib.Core.Path.{_≡_, refl, sym, ap, _∙_, subst, subst⁻¹}
 use mathlib.Core.Logic.{_⊎_, inl, inr, ⊎-elim}
 use mathlib.Core.Bool.{Bool, true, false, true≢false, cond}
@@ -156,7 +156,8 @@ two-frames s old x x₂ z y y₂ a b e e₂ =
     ∙ recovers-in-two t (rule-of s) s (knows s old x a .fit) old (countOf x) (countOf x₂) (z .count) (z .word)
     (old-inside s old x a) (next-inside s old x a) (next-inside s (countOf x) x₂ b)
 
--- A sink in any state, over two frames or more: it holds the count of the last, and delivers each frame after the first two.
+-- A sink in any state, over two frames or more: it holds the count of the last, and delivers each
+-- frame after the first two.
 pub recovers : (s : Settings) (old : ℕ) (xs : List SourceStep) (z : SinkState) (ys : List SinkStep) (end : SinkState) → Chain s old xs → Thread s z ys end → Each Unharmed xs ys
     → 2 ≤ length ys → (end .count ≡ Known (countAfter old xs ys)) × Each Delivers (drop 2 xs) (drop 2 ys)
 recovers s old xs z [] end c h r l = absurd (omega arith)
@@ -225,7 +226,8 @@ safe-along s before old (x ∷ xs) z (y ∷ ys) end c h r in-window-before safe 
     safe-along s old (countOf x) xs (followed s z y) ys end (c .1) (h .1) (r .1) (old-inside s old x (c .0))
     (safe-by _ s before old x z y (c .0) (r .0) in-window-before safe refl)
 
--- A new sink over any number of frames with few wrong control bits: its count is none, or that of the last frame.
+-- A new sink over any number of frames with few wrong control bits: its count is none, or that of
+-- the last frame.
 pub never-false : (s : Settings) (old : ℕ) (xs : List SourceStep) (ys : List SinkStep) (end : SinkState) → Chain s old xs → Thread s newSink ys end
     → Each (AtMostWrong budget s) xs ys → NoneOr (λ (n : ℕ). n ≡ countAfter old xs ys) (end .count)
 never-false s old xs [] end c h r = subst (λ (q : SinkState). NoneOr (λ (n : ℕ). n ≡ old) (q .count)) (sym h) tt

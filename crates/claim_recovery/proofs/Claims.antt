@@ -1,4 +1,5 @@
--- Demand 3: from the lists of accepted calls, beside each other, to the frames by their numbers. Assumes nothing.
+-- Demand 3: from the lists of accepted calls, beside each other, to the frames by their numbers.
+-- Assumes nothing.
 use mathlib.Core.Path.{_≡_, refl, ap, _∙_, subst}
 use mathlib.Core.Logic.{_⊎_, inl, inr, ⊎-map}
 use mathlib.Core.List.{List, [], _∷_}

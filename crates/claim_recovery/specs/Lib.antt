@@ -1,4 +1,5 @@
--- Whole runs (01, "Whole runs"): the runs, the claims about them, and that calls which keep their contracts make such runs. Assumes nothing.
+-- Whole runs (01, "Whole runs"): the runs, the claims about them, and that calls which keep their
+-- contracts make such runs. Assumes nothing.
 pub mod Runs
 pub mod Demand
 pub mod Tallied

@@ -1,5 +1,6 @@
--- Runs as they are observed: of each call what it was given, what it returned and what it left in the lent buffers. All that is known of a call is what
--- its contract ensures, by the contract's own reading (`Learnt`). Such runs are those that the claims are about. Assumes nothing.
+-- Runs as they are observed: of each call what it was given, what it returned and what it left in
+-- the lent buffers. All that is known of a call is what its contract ensures, by the contract's own
+-- reading (`Learnt`). Such runs are those that the claims are about. Assumes nothing.
 use mathlib.Core.Path.{_≡_}
 use mathlib.Core.Bool.{Bool, cond}
 use mathlib.Core.List.{List, [], _∷_}
@@ -52,7 +53,8 @@ abbrev pub SourcePassed : SourceState → List SourceSeen → Type 0
 SourcePassed z [] = Unit {0}
 SourcePassed z (x ∷ xs) = (x .step .state ≡ z) × SourcePassed (x .result .state) xs
 
--- and the tally that it left, the first one y; the last call returned the state e and left the tally t
+-- and the tally that it left, the first one y; the last call returned the state e and left the
+-- tally t
 abbrev pub SinkPassed : SinkState → Tally → List SinkSeen → SinkState → Tally → Type 0
 SinkPassed z y [] e t = (e ≡ z) × (t ≡ y)
 SinkPassed z y (c ∷ cs) e t = (c .step .state ≡ z) × (c .tally ≡ y) × SinkPassed (c .result .result .state) (c .result .tally) cs e t
@@ -74,8 +76,9 @@ abbrev pub sinkTaken : List SinkSeen → List SinkStep
 sinkTaken [] = []
 sinkTaken (y ∷ ys) = cond (accepts (answerMeaning (y .result .result .answer))) (y .step ∷ sinkTaken ys) (sinkTaken ys)
 
--- Calls that keep their contracts go as the definitions go: the accepted calls are the steps of the run, their buffers are the frames and the outputs,
--- and the last state and tally are those of the run.
+-- Calls that keep their contracts go as the definitions go: the accepted calls are the steps of the
+-- run, their buffers are the frames and the outputs, and the last state and tally are those of the
+-- run.
 pub record AsDefined : Type 0 where
   pub source : (z : SourceState) (seen : List SourceSeen) → SourcePassed z seen → sourceTaken seen ≡ sourceSteps z (sourceCalls seen)
   pub frame : (x : SourceSeen) → x .frame ≡ frameOf (x .step)

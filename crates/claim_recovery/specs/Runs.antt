@@ -1,5 +1,6 @@
--- Runs (01, "Whole runs"): "A source run is any list of source calls from a new source; a sink run is any list of calls of one sink, from a new
--- one or from the state named. Refused calls stand in both. Each call gets the state that the call before it in its list returned .. The other
+-- Runs (01, "Whole runs"): "A source run is any list of source calls from a new source; a sink run
+-- is any list of calls of one sink, from a new one or from the state named. Refused calls stand in
+-- both. Each call gets the state that the call before it in its list returned .. The other
 -- arguments are free". Assumes nothing.
 use mathlib.Core.Path.{_≡_}
 use mathlib.Core.Bool.{Bool, cond}
@@ -31,14 +32,16 @@ abbrev pub Bytes : List ℕ → Type 0
 Bytes [] = Unit {0}
 Bytes (b ∷ l) = (b < 256) × Bytes l
 
--- what the caller of a source chooses: the settings, the next count, the client bytes and the frame buffer
+-- what the caller of a source chooses: the settings, the next count, the client bytes and the frame
+-- buffer
 pub record SourceCall : Type 0 where
   pub settings : Settings
   pub next : ℕ
   pub client : List ℕ
   pub buffer : List ℕ
 
--- what the caller of a sink chooses: the settings, the frame that is lent, of bytes, and the output buffer
+-- what the caller of a sink chooses: the settings, the frame that is lent, of bytes, and the output
+-- buffer
 pub record SinkCall : Type 0 where
   pub settings : Settings
   pub frame : List ℕ
@@ -68,7 +71,8 @@ sourceAfter x = sourceState (x .call .settings) (x .state) (x .call .next) (x .c
 abbrev pub sinkAfter : SinkStep → SinkState
 sinkAfter y = sinkState (y .call .settings) (y .state) (y .call .frame) (y .call .out)
 
--- the accepted calls of a source run from the state z, in order, each with the state that it was given
+-- the accepted calls of a source run from the state z, in order, each with the state that it was
+-- given
 unfoldable pub sourceSteps : SourceState → List SourceCall → List SourceStep
 sourceSteps z [] = []
 sourceSteps z (c ∷ cs) =
@@ -89,7 +93,8 @@ unfoldable pub sinkEnd : SinkState → List SinkCall → SinkState
 sinkEnd z [] = z
 sinkEnd z (c ∷ cs) = sinkEnd (sinkAfter (record { call = c; state = z })) cs
 
--- "The n-th accepted source call writes frame n, .. from client bytes called load n, and takes a next count called count n."
+-- "The n-th accepted source call writes frame n, .. from client bytes called load n, and takes a
+-- next count called count n."
 abbrev pub frameOf : SourceStep → List ℕ
 frameOf x = sourceFrame (x .call .settings) (x .state) (x .call .next) (x .call .client) (x .call .buffer)
 

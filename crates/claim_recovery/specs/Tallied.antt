@@ -32,7 +32,8 @@ unfoldable pub bytesOf : List SinkStep → ℕ
 bytesOf [] = 0
 bytesOf (y ∷ ys) = length (handedOf y) + bytesOf ys
 
--- After any list of sink calls the tally is the sum over the accepted ones, each number staying at the largest; refused calls add nothing.
+-- After any list of sink calls the tally is the sum over the accepted ones, each number staying at
+-- the largest; refused calls add nothing.
 abbrev pub TallySums : Type 0
 TallySums =
     (z : SinkState) (y : Tally) → Of32Bits y → (calls : List SinkCall)

@@ -1,4 +1,5 @@
--- The worked run, by computing the definitions, and what does not do: fewer frames, or more wrong bits. Assumes nothing.
+-- The worked run, by computing the definitions, and what does not do: fewer frames, or more wrong
+-- bits. Assumes nothing.
 use mathlib.Core.Path.{_≡_, refl, sym, ap, _∙_}
 use mathlib.Core.Bool.{Bool, true, false, cond, xor}
 use mathlib.Core.List.{List, [], _∷_}
@@ -91,7 +92,7 @@ pairs : (y : SinkStep) → Nth (sinkSteps newSink two) 2 y → answerOf y ≡ ac
 unfolding sourceSteps sinkSteps sinkEnd sourceRefusal sourceState sourceFrame newSource startRefusal written controlBytes announced frame row tabulate placed places remainder divide reduce bits outside sinkRefusal sinkAnswer sinkState sinkHanded sinkOut handed standingAfter stateAfter controlOf foundBy reading inWindow usable tracked candidate paired equalIndicators passes clientBytes chosen payload columns word differing xor tableOf
 pairs y e = ap answerOf (sym e) ∙ refl
 
--- the words begin with different letters
+-- the names begin with different letters
 abbrev letter : Answer Finding → ℕ
 letter (accepted f) = getD (f .name) 0 0
 letter (refused n) = 0

@@ -1,4 +1,5 @@
--- Demand 3 with numbers of frames and wrong bits that are open: 2, 1 and 3 are demand 3 itself. Assumes nothing.
+-- Demand 3 with numbers of frames and wrong bits that are open: 2, 1 and 3 are demand 3 itself.
+-- Assumes nothing.
 use mathlib.Core.Path.{_≡_}
 use mathlib.Core.List.{List}
 use Prim.Native.Nat.{ℕ, _+_, _-_, _≤_}
@@ -27,7 +28,8 @@ DeliversAfter gap =
     → (reader : List SinkCall) → Reads s (sourceSteps source calls) Unharmed m n newSink reader
     → (i : ℕ) → m + gap ≤ i → i ≤ n → (x : SourceStep) × (y : SinkStep) × Nth (sourceSteps source calls) i x × Nth (sinkSteps newSink reader) (i + 1 - m) y × Delivers x y
 
--- After one frame a sink need not hold the count; frame m + 1 need not be delivered; four wrong bits can give a false count.
+-- After one frame a sink need not hold the count; frame m + 1 need not be delivered; four wrong
+-- bits can give a false count.
 pub record NoLess : Type 0 where
   pub one-frame : HoldsAfter 0 → ⊥
   pub second-frame : DeliversAfter 1 → ⊥

@@ -1,4 +1,5 @@
--- The hypotheses of demand 3 can be met by every source run: any sink can read it from any frame m up to any later frame. Assumes nothing.
+-- The hypotheses of demand 3 can be met by every source run: any sink can read it from any frame m
+-- up to any later frame. Assumes nothing.
 use mathlib.Core.Path.{_≡_}
 use mathlib.Core.List.{List}
 use Prim.Native.Nat.{ℕ, _+_, _≤_}

@@ -1,5 +1,6 @@
--- A run on the grid K = 2 with the window 0 to 8: a source with steps of every size, read by a new sink, by a sink that knows a false count and a
--- false word, and by a new sink over a hit; refused calls stand in all. Assumes nothing.
+-- A run on the grid K = 2 with the window 0 to 8: a source with steps of every size, read by a new
+-- sink, by a sink that knows a false count and a false word, and by a new sink over a hit; refused
+-- calls stand in all. Assumes nothing.
 use mathlib.Core.Path.{_≡_, refl, sym, subst}
 use mathlib.Core.Bool.{Bool, true, false, cond}
 use mathlib.Core.List.{List, [], _∷_}
@@ -110,7 +111,8 @@ fromAny =
     ∷ hear small frame6 tt room
     ∷ []
 
--- A hit: frame 3 with one wrong bit in each control byte, and frame 5 with nothing whole but its control bytes.
+-- A hit: frame 3 with one wrong bit in each control byte, and frame 5 with nothing whole but its
+-- control bytes.
 abbrev pub hit3 : List ℕ
 hit3 = 0 ∷ 84 ∷ 0 ∷ 31 ∷ 0 ∷ 76 ∷ 32 ∷ 33 ∷ 0 ∷ 146 ∷ 0 ∷ 34 ∷ 0 ∷ 0 ∷ 35 ∷ 36 ∷ []
 

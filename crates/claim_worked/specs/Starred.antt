@@ -57,7 +57,8 @@ gigabit = record { settings = opu0; p = 18671875; q = 1296 }
 
 abbrev pub starred : List Case
 starred =
-    -- "Old 14407: next 14407 E1 1C 6E; 14408 4B B6 38; 14409 87 7A A7; 14406 B4 49 45; 14405 78 85 DA. Old 14405, next 14409: E1 27 6C."
+    -- "Old 14407: next 14407 E1 1C 6E; 14408 4B B6 38; 14409 87 7A A7; 14406 B4 49 45; 14405 78 85
+    -- DA. Old 14405, next 14409: E1 27 6C."
     numbers (announces 14407 14407) (0xE1 ∷ 0x1C ∷ 0x6E ∷ [])
     ∷ numbers (announces 14407 14408) (0x4B ∷ 0xB6 ∷ 0x38 ∷ [])
     ∷ numbers (announces 14407 14409) (0x87 ∷ 0x7A ∷ 0xA7 ∷ [])
@@ -66,9 +67,11 @@ starred =
     ∷ numbers (announces 14405 14409) (0xE1 ∷ 0x27 ∷ 0x6C ∷ [])
     -- "A new OPU0 sink reads 4B B6 38 (WAITING), then 4B 8A 19: PAIRED, 14409."
     ∷ standings (reads opu0 newSink (control 0x4B 0xB6 0x38 ∷ control 0x4B 0x8A 0x19 ∷ [])) (finding WAITING Unknown ∷ finding PAIRED (Known 14409) ∷ [])
-    -- "Window 0 to 15232, known count 2932 (false), no word: 4B B6 38 is TRACKED to 2934; then 4B 8A 19 is PAIRED, 14409."
+    -- "Window 0 to 15232, known count 2932 (false), no word: 4B B6 38 is TRACKED to 2934; then 4B
+    -- 8A 19 is PAIRED, 14409."
     ∷ standings (reads wide misled (control 0x4B 0xB6 0x38 ∷ control 0x4B 0x8A 0x19 ∷ [])) (finding TRACKED (Known 2934) ∷ finding PAIRED (Known 14409) ∷ [])
-    -- "00 00 00 passes the check: OPU0 says OUTSIDE; window 0 to 8 says READ, 0. FF FF FF: BADCHECK."
+    -- "00 00 00 passes the check: OPU0 says OUTSIDE; window 0 to 8 says READ, 0. FF FF FF:
+    -- BADCHECK."
     ∷ standings (reads opu0 newSink (control 0x00 0x00 0x00 ∷ [])) (finding OUTSIDE Unknown ∷ [])
     ∷ standings (reads narrow newSink (control 0x00 0x00 0x00 ∷ [])) (finding READ (Known 0) ∷ [])
     ∷ standings (reads opu0 newSink (control 0xFF 0xFF 0xFF ∷ [])) (finding BADCHECK Unknown ∷ [])

@@ -19,7 +19,8 @@ pub fn readable_runs()
     ensures { λ _. ⌜ Readable ⌝ }
 {}
 
-// One frame does not find the count, the second is not yet delivered, and four wrong bits can make it false.
+// One frame does not find the count, the second is not yet delivered, and four wrong bits can make
+// it false.
 pub fn no_less()
     ensures { λ _. ⌜ NoLess ⌝ }
 {}

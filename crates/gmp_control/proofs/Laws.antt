@@ -1,5 +1,6 @@
--- What the crates above cite of the control word: how a sink's count and remembered word go along with the words that a source writes.
--- All of it holds for every table of patterns that keeps the rule. Assumes nothing.
+-- What the crates above cite of the control word: how a sink's count and remembered word go along
+-- with the words that a source writes. All of it holds for every table of patterns that keeps the
+-- rule. Assumes nothing.
 use mathlib.Core.Path.{_≡_, refl, sym, ap, _∙_, subst, subst⁻¹}
 use mathlib.Core.Logic.{_⊎_, inl, inr}
 use mathlib.Core.Bool.{Bool, true, false, true≢false, cond}
@@ -77,8 +78,8 @@ plain-word : (w : ℕ) → equalIndicators w ≡ true → usable (Word w) ≡ No
 unfolding usable
 plain-word w e = rw e
 
--- Never false: the count is none or the true one, and the remembered word none or the source's word of the frame before, in which the count
--- was old.
+-- Never false: the count is none or the true one, and the remembered word none or the source's word
+-- of the frame before, in which the count was old.
 pub record Safe (t : Table) (old count : ℕ) (c : Count) (r : Remembered) : Type 0 where
   pub count-true : NoneOr (λ (n : ℕ). n ≡ count) c
   pub word-true : (r ≡ Nothing) ⊎ ((r ≡ Word (announced t old count)) × (equalIndicators (announced t old count) ≡ false))

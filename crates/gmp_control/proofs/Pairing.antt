@@ -1,4 +1,5 @@
--- What two words of a source in succession lead to, for every table that keeps the rule. Sign 0 is plus, 1 is minus. Assumes nothing.
+-- What two words of a source in succession lead to, for every table that keeps the rule. Sign 0 is
+-- plus, 1 is minus. Assumes nothing.
 use mathlib.Core.Path.{_≡_, refl, sym, ap, ap₂, _∙_}
 use mathlib.Core.Logic.{_⊎_, inl, inr, ⊎-elim, ⊎-map}
 use mathlib.Core.Bool.{Bool, true, false, cond}
@@ -91,7 +92,8 @@ module _ (t : Table) (rule : Rule t) where
       go false true e o = inr (inr (eqb-true x b o))
       go false false e o = inl (simp (e, o))
 
-  -- two changes of a sign are the same, or their patterns differ in the swapped bits and one of them is odd
+  -- two changes of a sign are the same, or their patterns differ in the swapped bits and one of
+  -- them is odd
   same-or-other : (g j i : ℕ) → g < 2 → Of g j → Of g i
       → (j ≡ i) ⊎ ((bitXor (patternAt t j) (patternAt t i) ≡ swap) × ((changeAt j + changeAt i) % 2 ≡ 1))
   same-or-other g j i h (inl a) (inl b) = inl (a ∙ sym b)
@@ -161,13 +163,15 @@ module _ (t : Table) (rule : Rule t) where
         go (inr e) (inl l) = rw l (rw (← e) made)
         go (inr e) (inr l) = rw l
 
-    -- and whichever possible count the first word led to, the second leads it nowhere or to the source's count
+    -- and whichever possible count the first word led to, the second leads it nowhere or to the
+    -- source's count
     pub possible-leads : (c : ℕ) → Possible t (sent t old j) s c
         → (tracked t c (sent t (after old j) k) g ≡ Unknown) ⊎ (tracked t c (sent t (after old j) k) g ≡ Known (after (after old j) k))
     unfolding Leads
     possible-leads c h = ⊎-elim (λ e. rw e (each s (inl refl))) (λ e. rw e (each (s + 2) (inr refl))) h
 
-  -- Of the two possible counts of any word v, whoever wrote it, another word continues at most one, unless they are the same number.
+  -- Of the two possible counts of any word v, whoever wrote it, another word continues at most one,
+  -- unless they are the same number.
   module _ (v f bits g : ℕ) (hf : f < 2) (hg : g < 2) where
     old : ℕ
     old = bitXor v (patternAt t f)

@@ -1,5 +1,6 @@
--- Why a word continues one count only. The two patterns of a sign differ in the bits D, the same for both signs, and of their two changes
--- one is odd and one even. Nothing here looks at the patterns themselves. Assumes nothing.
+-- Why a word continues one count only. The two patterns of a sign differ in the bits D, the same
+-- for both signs, and of their two changes one is odd and one even. Nothing here looks at the
+-- patterns themselves. Assumes nothing.
 use mathlib.Core.Path.{_≡_, refl, sym, ap, _∙_}
 use mathlib.Core.Logic.{_⊎_, inl, inr, ⊎-elim, ⊎-map}
 use Prim.Native.Nat.{ℕ, _+_, _%_}

@@ -1,5 +1,5 @@
--- How a sink's count and remembered word go along with the words of a source, before the window, for every table that keeps the rule.
--- Assumes nothing.
+-- How a sink's count and remembered word go along with the words of a source, before the window,
+-- for every table that keeps the rule. Assumes nothing.
 use mathlib.Core.Path.{_≡_, refl, sym, ap, _∙_, subst⁻¹, subst}
 use mathlib.Core.Logic.{_⊎_, inl, inr, ⊎-elim}
 use mathlib.Core.Bool.{Bool, true, false, cond}

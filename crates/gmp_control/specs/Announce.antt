@@ -1,5 +1,6 @@
--- What the source writes (01, "Control word"): "The word in a frame announces the count of the next frame's payload. .. The C bits are old,
--- exclusive-or a pattern". Both counts are taken modulo 16,384. Assumes nothing.
+-- What the source writes (01, "Control word"): "The word in a frame announces the count of the next
+-- frame's payload. .. The C bits are old, exclusive-or a pattern". Both counts are taken modulo
+-- 16,384. Assumes nothing.
 use mathlib.Core.Bool.{Bool, cond}
 use Prim.Native.Nat.{ℕ, _%_}
 use lib.Dec.{eqb}
@@ -11,7 +12,8 @@ use Rattle.gmp_control.specs.Pattern.{Table, patternAt, changeAt}
 abbrev pub changesBy : ℕ → ℕ → ℕ → Bool
 changesBy old next k = eqb (next % modulus) (moved old (changeAt k))
 
--- the word in a frame of count old that announces the count next: the rows of the table are 0, +1, −1, +2, −2 and other
+-- the word in a frame of count old that announces the count next: the rows of the table are 0, +1,
+-- −1, +2, −2 and other
 unfoldable pub announced : Table → ℕ → ℕ → ℕ
 announced t old next =
     cond (eqb (next % modulus) (old % modulus)) (wordOf old 0 0)

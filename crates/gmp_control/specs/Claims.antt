@@ -1,4 +1,5 @@
--- What two sinks may rely on, for every table of patterns that keeps the rule and not only for the paper's. Assumes nothing.
+-- What two sinks may rely on, for every table of patterns that keeps the rule and not only for the
+-- paper's. Assumes nothing.
 use mathlib.Core.Path.{_≡_}
 use mathlib.Core.Bool.{false, cond}
 use Prim.Native.Nat.{ℕ, _+_, _<_}
@@ -29,7 +30,8 @@ RecoversInTwo t =
     → let v = announced t old mid in
     foundBy t s (foundBy t s count before v .count) (usable (Word v)) (announced t mid next) .count ≡ Known next
 
--- "the one which this word continues": where both possible counts of a word are continued, they lead to the same count
+-- "the one which this word continues": where both possible counts of a word are continued, they
+-- lead to the same count
 abbrev pub ContinuesOne : Table → Type 0
 ContinuesOne t =
     (before f bits g a b : ℕ) → f < 2 → g < 2 → tracked t (candidate t before f) bits g ≡ Known a → tracked t (candidate t before (f + 2)) bits g ≡ Known b → a ≡ b

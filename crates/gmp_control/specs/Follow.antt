@@ -21,8 +21,8 @@ unfoldable pub usable : Remembered → Remembered
 usable (Word w) = cond (equalIndicators w) Nothing (Word w)
 usable Nothing = Nothing
 
--- "C exclusive-or that count is one of the two patterns of this sign, the count moves by that pattern's change": the count after a word with
--- these count bits and sign, from this count
+-- "C exclusive-or that count is one of the two patterns of this sign, the count moves by that
+-- pattern's change": the count after a word with these count bits and sign, from this count
 unfoldable pub tracked : Table → ℕ → ℕ → ℕ → Count
 tracked t count bits g =
     cond (eqb (bitXor bits count) (patternAt t g)) (Known (moved count (changeAt g)))
@@ -36,8 +36,8 @@ abbrev pub orElse : Count → Count → Count
 orElse (Known n) m = Known n
 orElse Unknown m = m
 
--- of the two possible counts of the word before, with its count bits and its sign f, "the one which this word continues by a pattern of its
--- sign moves by that change"
+-- of the two possible counts of the word before, with its count bits and its sign f, "the one which
+-- this word continues by a pattern of its sign moves by that change"
 unfoldable pub paired : Table → ℕ → ℕ → ℕ → ℕ → Count
 paired t before f bits g = orElse (tracked t (candidate t before f) bits g) (tracked t (candidate t before (f + 2)) bits g)
 
@@ -50,7 +50,8 @@ abbrev pub fromWord : Table → Remembered → ℕ → Count
 fromWord t (Word v) w = paired t (countBits v) (sign v) (countBits w) (sign w)
 fromWord t Nothing w = Unknown
 
--- rule 3: from the known count "TRACKED. Otherwise, if a word was remembered from before, .. PAIRED. Otherwise count none: WAITING."
+-- rule 3: from the known count "TRACKED. Otherwise, if a word was remembered from before, ..
+-- PAIRED. Otherwise count none: WAITING."
 abbrev pub trackedElsePaired : Count → Count → Finding
 trackedElsePaired (Known n) other = finding TRACKED (Known n)
 trackedElsePaired Unknown (Known n) = finding PAIRED (Known n)
@@ -68,7 +69,8 @@ windowedBy s f Unknown = f
 abbrev pub windowed : Settings → Finding → Finding
 windowed s f = windowedBy s f (f .count)
 
--- the standing after a word w that passed the check, from this count and this remembered word, with this table of patterns
+-- the standing after a word w that passed the check, from this count and this remembered word, with
+-- this table of patterns
 unfoldable pub foundBy : Table → Settings → Count → Remembered → ℕ → Finding
 foundBy t s count before w = windowed s (reading t (inWindow s count) (usable before) w)
 
@@ -76,7 +78,8 @@ foundBy t s count before w = windowed s (reading t (inWindow s count) (usable be
 abbrev pub found : Settings → Count → Remembered → ℕ → Finding
 found s count before w = foundBy (tableOf s) s count before w
 
--- What `follow` promises: the standing; the new count is what it found; the word is remembered where II ≠ DI, OUTSIDE or not.
+-- What `follow` promises: the standing; the new count is what it found; the word is remembered
+-- where II ≠ DI, OUTSIDE or not.
 pub record Follows (s : Settings) (count : Count) (before : Remembered) (w : ℕ) (r : Followed) : Type 0 where
   pub standing : standingMeaning (r .standing) ≡ found s count before w
   pub count-is : r .count ≡ found s count before w .count

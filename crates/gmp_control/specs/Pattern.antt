@@ -1,5 +1,6 @@
--- The inversion patterns (01, "Control word", the table of changes). Every definition below takes the table of patterns as a parameter, and
--- the laws ask only that it keeps the rule. Assumes nothing.
+-- The inversion patterns (01, "Control word", the table of changes). Every definition below takes
+-- the table of patterns as a parameter, and the laws ask only that it keeps the rule. Assumes
+-- nothing.
 use mathlib.Core.Path.{_≡_}
 use mathlib.Core.List.{List, [], _∷_}
 use Prim.Native.Nat.{ℕ, _<_}
@@ -8,7 +9,8 @@ use lib.Bits.{bitXor}
 use Rattle.gmp_settings.specs.declared.Settings.{Settings}
 use Rattle.gmp_control.specs.Word.{modulus}
 
--- four patterns of 14 bits, C1 to C14, for the changes +1, −1, +2, −2 in this order: those of a sign are at the sign and two further
+-- four patterns of 14 bits, C1 to C14, for the changes +1, −1, +2, −2 in this order: those of a
+-- sign are at the sign and two further
 abbrev pub Table : Type 0
 Table = List ℕ
 
@@ -27,7 +29,8 @@ patternAt t k = getD t k 0
 abbrev pub changeAt : ℕ → ℕ
 changeAt k = getD (1 ∷ 16383 ∷ 2 ∷ 16382 ∷ []) k 0
 
--- The rule of a table: the two patterns of a sign differ in the same bits for both signs, and in some bit; and all have 14 bits.
+-- The rule of a table: the two patterns of a sign differ in the same bits for both signs, and in
+-- some bit; and all have 14 bits.
 pub record Rule (t : Table) : Type 0 where
   pub same : bitXor (patternAt t 0) (patternAt t 2) ≡ bitXor (patternAt t 1) (patternAt t 3)
   pub differ : bitXor (patternAt t 0) (patternAt t 2) ≡ 0 → ⊥

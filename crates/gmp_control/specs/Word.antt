@@ -1,5 +1,6 @@
--- The control word before its check (01, "Control word"): "JC1 holds C1 to C8, JC2 holds C9 to C14, II, DI, most significant bit first".
--- Its 16 bits are one number, JC1 × 256 + JC2. Assumes nothing.
+-- The control word before its check (01, "Control word"): "JC1 holds C1 to C8, JC2 holds C9 to C14,
+-- II, DI, most significant bit first". Its 16 bits are one number, JC1 × 256 + JC2. Assumes
+-- nothing.
 use mathlib.Core.Bool.{Bool}
 use Prim.Native.Nat.{ℕ, _+_, _*_, _/_, _%_}
 use lib.Dec.{eqb}

@@ -19,8 +19,8 @@ bytes a b = record { jc1 = a; jc2 = b }
 abbrev announces : ℕ → ℕ → WordBytes
 announces old next = wordBytes (announced standard old next)
 
--- "Old 14407: next 14407 E1 1C 6E; 14408 4B B6 38; 14409 87 7A A7; 14406 B4 49 45; 14405 78 85 DA. Old 14405, next 14409: E1 27 6C."
--- The third bytes are worked in the crate crc8.
+-- "Old 14407: next 14407 E1 1C 6E; 14408 4B B6 38; 14409 87 7A A7; 14406 B4 49 45; 14405 78 85 DA.
+-- Old 14405, next 14409: E1 27 6C." The third bytes are worked in the crate gmp_crc8.
 pub words :
     (announces 14407 14407 ≡ bytes 0xE1 0x1C)
     × (announces 14407 14408 ≡ bytes 0x4B 0xB6)
@@ -45,7 +45,8 @@ pub hunting :
 unfolding foundBy inWindow usable tracked candidate paired reading equalIndicators tableOf outside
 hunting = (refl, refl)
 
--- "Window 0 to 15232, known count 2932 (false), no word: 4B B6 38 is TRACKED to 2934; then 4B 8A 19 is PAIRED, 14409."
+-- "Window 0 to 15232, known count 2932 (false), no word: 4B B6 38 is TRACKED to 2934; then 4B 8A 19
+-- is PAIRED, 14409."
 pub false-count :
     (found wide (Known 2932) Nothing (wordBy 0x4B 0xB6) ≡ finding TRACKED (Known 2934))
     × (found wide (Known 2934) (Word (wordBy 0x4B 0xB6)) (wordBy 0x4B 0x8A) ≡ finding PAIRED (Known 14409))

@@ -1,5 +1,6 @@
-// The control word of a frame: its parts, the inversion patterns, and what source and sink can rely on. What a source announces by the word
-// is in the crate announce, how a sink's count follows it in the crate follow.
+// The control word of a frame: its parts, the inversion patterns, and what source and sink can rely
+// on. What a source announces by the word is in the crate gmp_control_write, how a sink's count
+// follows it in the crate gmp_control_read.
 use gmp_settings::Settings;
 use gmp_standing::Count;
 use gmp_standing::Standing;
@@ -38,7 +39,8 @@ const PATTERNS: [u32; 4] = [
 // The same changes modulo 16,384.
 const CHANGES: [u32; 4] = [1, 16383, 2, 16382];
 
-// The pattern of a change, from the table of the settings. A change is 0 to 3; any further number stands for none, and inverts nothing.
+// The pattern of a change, from the table of the settings. A change is 0 to 3; any further number
+// stands for none, and inverts nothing.
 pub fn pattern(settings: Settings, change: usize) -> u32
     ensures { λ r. ⌜ r ≡ patternAt (tableOf settings) change ⌝ }
 {
@@ -55,7 +57,8 @@ pub fn move_count(count: u32, change: usize) -> u32
     (count % 16384 + change_at(change)) % 16384
 }
 
-// Every table of patterns that keeps the rule serves: a true count is followed, and two words in succession find the count from any state.
+// Every table of patterns that keeps the rule serves: a true count is followed, and two words in
+// succession find the count from any state.
 pub fn tables_serve()
     ensures { λ _. ⌜ TablesServe ⌝ }
 {}

@@ -10,8 +10,8 @@ ghost use Rattle.gmp_control.specs.Word.{countBits, equalIndicators, sign, word
 ghost use Rattle.gmp_control.specs.Pattern.{tableOf};
 ghost use Rattle.gmp_control.specs.Follow.{usable, tracked, candidate, fromCount, fromWord, trackedElsePaired, reading, windowed, Follows};
 
-// What a word that passed the check leads to, from a known count or none and a remembered word or none. A count outside the window and a
-// remembered word with II = DI count as none.
+// What a word that passed the check leads to, from a known count or none and a remembered word or
+// none. A count outside the window and a remembered word with II = DI count as none.
 pub fn follow(settings: Settings, count: Count, earlier: Remembered, jc1: u8, jc2: u8) -> Followed
     ensures { λ r. ⌜ Follows settings count earlier (wordBy jc1 jc2) r ⌝ }
 {
@@ -100,7 +100,8 @@ fn pair(settings: Settings, earlier: Remembered, word: u32) -> Count
     Count::Known(n)
 }
 
-// A count that a word with II != DI continues by one of the two patterns of its sign moves by that change.
+// A count that a word with II != DI continues by one of the two patterns of its sign moves by that
+// change.
 fn continue_count(settings: Settings, count: u32, word: u32) -> Count
     ensures { λ r. ⌜ r ≡ tracked (tableOf settings) count (countBits word) (sign word) ⌝ }
 {

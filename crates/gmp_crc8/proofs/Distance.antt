@@ -1,6 +1,6 @@
--- The distance of the check: two words that pass and differ in at most `budget` of their 24 bits are the same.
--- The remainders of two words differ by the remainder of their difference, so one test runs over the differences: at most so many bits
--- apart, from the first on. Assumes nothing.
+-- The distance of the check: two words that pass and differ in at most `budget` of their 24 bits
+-- are the same. The remainders of two words differ by the remainder of their difference, so one
+-- test runs over the differences: at most so many bits apart, from the first on. Assumes nothing.
 use mathlib.Core.Path.{_≡_, refl, sym, ap, ap₂, _∙_, subst, subst⁻¹}
 use mathlib.Core.Bool.{Bool, true, false, not, _&&_, xor}
 use mathlib.Core.List.{List, [], _∷_, _++_}
@@ -15,7 +15,8 @@ use Rattle.gmp_crc8.specs.Division.{reduce, divide}
 use Rattle.gmp_crc8.specs.Check.{remainder, passes, word, wrongBits, budget}
 use Rattle.gmp_crc8.proofs.Linear.{step-xor, step-lt, divide-lt, divide-append, divide-bits, divide-byte}
 
--- of two divisions whose remainders differ by d, n digits before the end: at most k further differences never bring them together
+-- of two divisions whose remainders differ by d, n digits before the end: at most k further
+-- differences never bring them together
 apart : ℕ → ℕ → ℕ → Bool
 apart zero k d = not (eqb d 0)
 apart (suc n) zero d = apart n zero (reduce (d * 2 + 0))

@@ -12,7 +12,8 @@ use Rattle.math.specs.Bits.{digit, bits, digit-lt, digit-xor}
 use Rattle.gmp_crc8.specs.Division.{generator, reduce, divide}
 use Rattle.gmp_crc8.specs.Check.{remainder}
 
--- What is left is of degree 7 at most, and the generator was taken off as often as x^8 stood there: one test of the 512 cases.
+-- What is left is of degree 7 at most, and the generator was taken off as often as x^8 stood there:
+-- one test of the 512 cases.
 reduced : ℕ → Bool
 reduced t = ltb (reduce t) 256 && eqb (reduce t) (bitXor t (generator * (t / 256)))
 

@@ -1,4 +1,5 @@
--- The check (01, "Control word"; clause 17.7.1): JC3 is the remainder of JC1 and JC2, and a word passes if its JC3 is that. Assumes nothing.
+-- The check (01, "Control word"; clause 17.7.1): JC3 is the remainder of JC1 and JC2, and a word
+-- passes if its JC3 is that. Assumes nothing.
 use mathlib.Core.Path.{_≡_}
 use mathlib.Core.Bool.{Bool, true, false}
 use mathlib.Core.List.{List, _++_}

@@ -1,4 +1,5 @@
--- What other crates cite: that a frame gives back what was written to it, and what is left in a buffer where all fits. Assumes nothing.
+-- What other crates cite: that a frame gives back what was written to it, and what is left in a
+-- buffer where all fits. Assumes nothing.
 use mathlib.Core.Path.{_≡_, _∙_}
 use mathlib.Core.List.{List, _++_}
 use Prim.Native.Nat.{ℕ, _+_, _*_, _≤_}

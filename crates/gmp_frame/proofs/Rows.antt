@@ -69,7 +69,7 @@ module _ (k : ℕ) (client : List ℕ) (control : Control) (psi : ℕ) where
   unfolding frame
   row3 = record { before = r0 ++ (r1 ++ r2); after = []; split = simp (append-assoc, append-nil); start = simp (length-append, length-row) (omega arith) }
 
-  -- "The payload bytes, in row order": row by row they are one span
+  -- "The payload bytes, in row order": row by row they are one table of values
   pub payload-frame : payload k (frame k client control psi) ≡ tabulate (placed (length client) (4 * k) client) 0 (4 * k)
   unfolding payload
   payload-frame =

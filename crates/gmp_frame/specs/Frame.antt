@@ -1,5 +1,5 @@
--- The frame's layout (01, "Settings and the frame"): four rows of K + 2 bytes. Rows are numbered from 0 here, payload bytes from 1.
--- Assumes nothing.
+-- The frame's layout (01, "Settings and the frame"): four rows of K + 2 bytes. Rows are numbered
+-- from 0 here, payload bytes from 1. Assumes nothing.
 use mathlib.Core.Bool.{cond, _&&_}
 use mathlib.Core.List.{List, [], _∷_, _++_}
 use Prim.Native.Nat.{ℕ, _+_, _*_}
@@ -13,8 +13,9 @@ use Rattle.gmp_stuffing.specs.Places.{placed, tabulate, chosen}
 unfoldable pub row : ℕ → List ℕ → ℕ → ℕ → ℕ → List ℕ
 row k client r a b = a ∷ b ∷ tabulate (placed (length client) (payloadBytes k) client) (r * k) k
 
--- The frame of these client bytes; their number is the count. "The first byte of rows 1 to 3 is reserved. The first byte of row 4 is the
--- PSI byte .. The second byte of rows 1, 2, 3 is JC1, JC2, JC3, that of row 4 reserved." Reserved bytes are written as zero.
+-- The frame of these client bytes; their number is the count. "The first byte of rows 1 to 3 is
+-- reserved. The first byte of row 4 is the PSI byte .. The second byte of rows 1, 2, 3 is JC1, JC2,
+-- JC3, that of row 4 reserved." Reserved bytes are written as zero.
 unfoldable pub frame : ℕ → List ℕ → Control → ℕ → List ℕ
 frame k client control psi =
     row k client 0 0 (control .jc1) ++ (row k client 1 0 (control .jc2) ++ (row k client 2 0 (control .jc3) ++ row k client 3 psi 0))
@@ -31,18 +32,20 @@ payload k bytes = columns k bytes 0 ++ (columns k bytes 1 ++ (columns k bytes 2 
 unfoldable pub clientBytes : ℕ → ℕ → List ℕ → List ℕ
 clientBytes k C bytes = chosen C (payloadBytes k) 0 (payload k bytes)
 
--- JC1, JC2 and JC3 of a frame: the second bytes of its first three rows (zero where the frame is too short to have them)
+-- JC1, JC2 and JC3 of a frame: the second bytes of its first three rows (zero where the frame is
+-- too short to have them)
 unfoldable pub controlOf : ℕ → List ℕ → Control
 controlOf k bytes = record { jc1 = getD bytes 1 0; jc2 = getD bytes (k + 3) 0; jc3 = getD bytes (2 * k + 5) 0 }
 
--- What the frame writer leaves in its buffer: the frame, where the buffer has a frame's length and the client bytes fit its payload,
--- and else what was there.
+-- What the frame writer leaves in its buffer: the frame, where the buffer has a frame's length and
+-- the client bytes fit its payload, and else what was there.
 unfoldable pub frameWritten : ℕ → List ℕ → Control → ℕ → List ℕ → List ℕ
 frameWritten k client control psi buffer =
     cond (eqb (length buffer) (frameBytes k) && leb (length client) (payloadBytes k)) (frame k client control psi) buffer
 
--- What the client reader leaves in its buffer: the client bytes at its start and after them what was there, where the frame has a frame's
--- length and the count fits both its payload and the buffer, and else what was there.
+-- What the client reader leaves in its buffer: the client bytes at its start and after them what
+-- was there, where the frame has a frame's length and the count fits both its payload and the
+-- buffer, and else what was there.
 unfoldable pub clientTaken : ℕ → ℕ → List ℕ → List ℕ → List ℕ
 clientTaken k C bytes out =
     cond (eqb (length bytes) (frameBytes k) && (leb C (payloadBytes k) && leb C (length out))) (clientBytes k C bytes ++ drop C out) out

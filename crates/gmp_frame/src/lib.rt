@@ -1,5 +1,6 @@
-// The frame of the generic mapper: its layout of four rows, with the payload bytes at the stuffing places. Writing a frame is in the crate
-// framing, taking the client bytes out of one in the crate extraction.
+// The frame of the generic mapper: its layout of four rows, with the payload bytes at the stuffing
+// places. Writing a frame is in the crate gmp_frame_write, taking the client bytes out of one in
+// the crate gmp_frame_read.
 ghost use mathlib.Core.Path.{_≡_};
 ghost use lib.ListN.{getD};
 ghost use Rattle.gmp_frame.specs.Frame.{controlOf};
@@ -11,7 +12,8 @@ pub struct Control {
     pub jc3: u8,
 }
 
-// The control bytes of a frame on a grid of k columns; zero for those that a short frame does not have.
+// The control bytes of a frame on a grid of k columns; zero for those that a short frame does not
+// have.
 pub fn control_of(frame_in: &[u8], k: u32) -> Control
     ensures { λ r. ⌜ r ≡ controlOf k (now («frame_in» .entry)) ⌝ }
 {

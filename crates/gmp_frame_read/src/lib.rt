@@ -6,8 +6,9 @@ ghost use lib.ListN.{length, drop};
 ghost use Rattle.gmp_stuffing.specs.Row.{rowClient};
 ghost use Rattle.gmp_frame.specs.Frame.{columns, clientBytes, clientTaken};
 
-// Copies the client bytes of a frame, at the places of the count, to the start of the buffer, and leaves the rest of it. A frame that has
-// not a frame's length, or a count above its payload or above the buffer's length, leave the buffer as it was.
+// Copies the client bytes of a frame, at the places of the count, to the start of the buffer, and
+// leaves the rest of it. A frame that has not a frame's length, or a count above its payload or
+// above the buffer's length, leave the buffer as it was.
 pub fn take_client(frame_in: &[u8], k: u32, count: u32, out: &mut [u8])
     ensures { λ _. ⌜ now (out .exit) ≡ clientTaken k count (now («frame_in» .entry)) (now (out .entry)) ⌝ }
 {

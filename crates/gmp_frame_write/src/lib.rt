@@ -1,4 +1,5 @@
-// Writes a frame: the control bytes, the PSI byte, and the client bytes at the places of their count.
+// Writes a frame: the control bytes, the PSI byte, and the client bytes at the places of their
+// count.
 use gmp_frame::Control;
 ghost use mathlib.Core.Path.{_≡_};
 ghost use mathlib.Core.List.{_++_};
@@ -6,8 +7,8 @@ ghost use Prim.Native.Nat.{_+_, _*_, _≤_, _<_};
 ghost use lib.ListN.{length, take, drop};
 ghost use Rattle.gmp_frame.specs.Frame.{row, frame, frameWritten};
 
-// Writes the frame of the client bytes on a grid of k columns. A buffer that has not a frame's length, or client bytes that are more
-// than its payload, leave the buffer as it was.
+// Writes the frame of the client bytes on a grid of k columns. A buffer that has not a frame's
+// length, or client bytes that are more than its payload, leave the buffer as it was.
 pub fn write_frame(buffer: &mut [u8], k: u32, client: &[u8], control: Control, psi: u8)
     ensures { λ _. ⌜ now (buffer .exit) ≡ frameWritten k (now (client .entry)) control psi (now (buffer .entry)) ⌝ }
 {

@@ -1,5 +1,5 @@
--- The sum of a keeper's counts. Over any list of calls q times the sum and the last remainder are what came in: the first remainder, and p for
--- each count given. Assumes nothing.
+-- The sum of a keeper's counts. Over any list of calls q times the sum and the last remainder are
+-- what came in: the first remainder, and p for each count given. Assumes nothing.
 use mathlib.Core.Path.{_≡_, refl, sym, ap, _∙_, subst}
 use mathlib.Core.Bool.{Bool, true, false, true≢false}
 use mathlib.Core.List.{List, [], _∷_, _++_}

@@ -1,5 +1,5 @@
--- The rate keeper (01, "Source and rate keeper"): "It gives the whole part of (r + p) / q as the next count and keeps (r + p) mod q."
--- Assumes nothing.
+-- The rate keeper (01, "Source and rate keeper"): "It gives the whole part of (r + p) / q as the
+-- next count and keeps (r + p) mod q." Assumes nothing.
 use mathlib.Core.Bool.{Bool, cond, _||_}
 use mathlib.Core.List.{List, [], _∷_, _++_}
 use Prim.Native.Nat.{ℕ, _+_, _*_, _/_, _%_}

@@ -1,5 +1,6 @@
--- The sum of a keeper's counts, over any list of its calls, refused ones among them. Each call is given the remainder that the call before it
--- returned; its other arguments are free, but the accepted calls share p and q. Assumes nothing.
+-- The sum of a keeper's counts, over any list of its calls, refused ones among them. Each call is
+-- given the remainder that the call before it returned; its other arguments are free, but the
+-- accepted calls share p and q. Assumes nothing.
 use mathlib.Core.Path.{_≡_}
 use mathlib.Core.Bool.{true, false}
 use mathlib.Core.List.{List, [], _∷_, _++_}

@@ -1,4 +1,5 @@
-// The rate keeper: from a rate p / q of client bytes a frame it gives the count of each frame, and keeps the remainder.
+// The rate keeper: from a rate p / q of client bytes a frame it gives the count of each frame, and
+// keeps the remainder.
 use gmp_refusal::Refusal;
 use gmp_refusal::Verdict;
 use gmp_settings::Settings;
@@ -27,7 +28,8 @@ pub fn first_remainder(q: u32) -> u32
     0
 }
 
-// The next count at the rate p / q from the remainder r. A refused call returns the remainder that it was given.
+// The next count at the rate p / q from the remainder r. A refused call returns the remainder that
+// it was given.
 pub fn next_count(settings: Settings, p: u32, q: u32, r: u32) -> KeeperResult
     ensures { λ k. ⌜ resultMeaning k ≡ keeperCall settings p q r ⌝ }
 {

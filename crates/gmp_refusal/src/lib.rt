@@ -27,8 +27,8 @@ pub const NAMES: [u8; 63] = *b"grid   window divisorrate   state  count  client 
 
 pub const NAME_LENGTHS: [usize; 9] = [4, 6, 7, 4, 5, 5, 6, 5, 5];
 
-// The verdict with one more line of the paper's table: a refusal so far stands, and an accepted call
-// is refused where the line's condition applies.
+// The verdict with one more line of the paper's table: a refusal so far stands, and an accepted
+// call is refused where the line's condition applies.
 pub fn refuse_if(verdict: Verdict, applies: bool, refusal: Refusal) -> Verdict
     ensures { λ v. ⌜ verdictNumber v ≡ withLine (verdictNumber verdict) (reason (refusalNumber refusal) applies) ⌝ }
 {

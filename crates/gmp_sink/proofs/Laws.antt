@@ -144,7 +144,8 @@ hands-out s z frame out n after zero known e =
 pub state-of-parts : (count : Count) (word : Remembered) (x : SinkState) → count ≡ x .count → word ≡ x .word → record { count = count; word = word } ≡ x
 state-of-parts count word x e f = ap₂ (λ (c : Count) (w : Remembered). record { count = c; word = w }) e f
 
--- A call that no number turns back is not refused, and its standing is what the control bytes lead to.
+-- A call that no number turns back is not refused, and its standing is what the control bytes lead
+-- to.
 module _ {s : Settings} {z : SinkState} {frame out : List ℕ} (none : sinkRefusal s (length frame) (length out) ≡ 0) {r : SinkResult} {after : List ℕ}
     (p : SinkPromise s z frame out r after) where
   answered : answerMeaning (r .answer) ≡ accepted (standingAfter s z (controlOf (s .k) frame))

@@ -1,5 +1,5 @@
--- The sink (01, "Sink"). Three things are standingMeaning apart: what is handed out, how the count follows, and, in the crate card, what the tally adds.
--- Assumes nothing.
+-- The sink (01, "Sink"). Three things are said apart: what is handed out, how the count follows,
+-- and, in the crate card_sink, what the tally adds. Assumes nothing.
 use mathlib.Core.Path.{_≡_}
 use mathlib.Core.Bool.{Bool, not, cond}
 use mathlib.Core.List.{List, [], _∷_, _++_}
@@ -31,7 +31,8 @@ use Rattle.gmp_sink.specs.declared.SinkResult.{SinkResult}
 abbrev pub newSink : SinkState
 newSink = record { count = Unknown; word = Nothing }
 
--- A call's own lines: 8, "frame buffer not exactly 4K + 8 bytes"; 9, "output buffer shorter than hi".
+-- A call's own lines: 8, "frame buffer not exactly 4K + 8 bytes"; 9, "output buffer shorter than
+-- hi".
 abbrev pub sinkReasons : Settings → ℕ → ℕ → List Reason
 sinkReasons s frameLength outLength = reason 8 (not (eqb frameLength (frameBytes (s .k)))) ∷ reason 9 (ltb outLength (s .hi)) ∷ []
 
@@ -39,7 +40,8 @@ sinkReasons s frameLength outLength = reason 8 (not (eqb frameLength (frameBytes
 unfoldable pub sinkRefusal : Settings → ℕ → ℕ → ℕ
 sinkRefusal s frameLength outLength = lowest (settingsReasons s ++ sinkReasons s frameLength outLength)
 
--- "if a count is known, the client bytes at its places go to the start of the output buffer, else none"
+-- "if a count is known, the client bytes at its places go to the start of the output buffer, else
+-- none"
 abbrev pub atPlaces : ℕ → Count → List ℕ → List ℕ
 atPlaces k (Known n) frame = clientBytes k n frame
 atPlaces k Unknown frame = []
@@ -74,14 +76,16 @@ sinkAnswer s z frame out = answerBy (sinkRefusal s (length frame) (length out)) 
 unfoldable pub sinkState : Settings → SinkState → List ℕ → List ℕ → SinkState
 sinkState s z frame out = cond (eqb (sinkRefusal s (length frame) (length out)) 0) (stateAfter s z (controlOf (s .k) frame)) z
 
--- the bytes that a call hands out, and the output buffer after it: "bytes after them keep their content"
+-- the bytes that a call hands out, and the output buffer after it: "bytes after them keep their
+-- content"
 unfoldable pub sinkHanded : Settings → SinkState → List ℕ → List ℕ → List ℕ
 sinkHanded s z frame out = cond (eqb (sinkRefusal s (length frame) (length out)) 0) (handed s z frame) []
 
 unfoldable pub sinkOut : Settings → SinkState → List ℕ → List ℕ → List ℕ
 sinkOut s z frame out = sinkHanded s z frame out ++ drop (length (sinkHanded s z frame out)) out
 
--- What a call promises: its answer, the new state, the number of bytes handed out, and every byte of the output buffer.
+-- What a call promises: its answer, the new state, the number of bytes handed out, and every byte
+-- of the output buffer.
 pub record SinkPromise (s : Settings) (z : SinkState) (frame out : List ℕ) (r : SinkResult) (after : List ℕ) : Type 0 where
   pub answer : answerMeaning (r .answer) ≡ sinkAnswer s z frame out
   pub state : r .state ≡ sinkState s z frame out

@@ -1,4 +1,5 @@
-// The sink: its state, what it answers, and a new sink. The call that takes a frame is in the crate demapping.
+// The sink: its state, what it answers, and a new sink. The call that takes a frame is in the crate
+// gmp_sink_call.
 use gmp_control::Remembered;
 use gmp_refusal::Refusal;
 use gmp_standing::Count;

@@ -1,4 +1,5 @@
-// The sink's call: it hands out the client bytes of a frame at the places of the count that it knew before, and follows the control word.
+// The sink's call: it hands out the client bytes of a frame at the places of the count that it knew
+// before, and follows the control word.
 use gmp_control::Followed;
 use gmp_control::Remembered;
 use gmp_frame::Control;
@@ -15,7 +16,8 @@ ghost use lib.ListN.{length};
 ghost use Rattle.gmp_refusal.specs.Refusal.{verdictNumber};
 ghost use Rattle.gmp_sink.specs.Sink.{sinkRefusal, handed, HandsOut, ReadsControl, SinkPromise};
 
-// Takes a frame. A refused call returns the state that it was given and leaves the output buffer as it was.
+// Takes a frame. A refused call returns the state that it was given and leaves the output buffer as
+// it was.
 pub fn take_frame(settings: Settings, state: SinkState, frame: &[u8], out: &mut [u8]) -> SinkResult
     ensures { λ r. ⌜ SinkPromise settings state (now (frame .entry)) (now (out .entry)) r (now (out .exit)) ⌝ }
 {
@@ -30,7 +32,8 @@ pub fn take_frame(settings: Settings, state: SinkState, frame: &[u8], out: &mut 
     }
 }
 
-// The same where nothing is refused. The count that was known before the frame says which bytes are handed out.
+// The same where nothing is refused. The count that was known before the frame says which bytes are
+// handed out.
 fn take_accepted(settings: Settings, state: SinkState, frame: &[u8], out: &mut [u8]) -> SinkResult
     requires { ⌜ sinkRefusal settings (length (now frame)) (length (now out)) ≡ 0 ⌝ }
     ensures { λ r. ⌜ SinkPromise settings state (now (frame .entry)) (now (out .entry)) r (now (out .exit)) ⌝ }
@@ -52,7 +55,8 @@ fn take_accepted(settings: Settings, state: SinkState, frame: &[u8], out: &mut [
     }
 }
 
-// Copies the client bytes at the places of a known count to the start of the output buffer, and gives their number.
+// Copies the client bytes at the places of a known count to the start of the output buffer, and
+// gives their number.
 fn hand_out(settings: Settings, state: SinkState, frame: &[u8], out: &mut [u8]) -> u32
     requires { ⌜ sinkRefusal settings (length (now frame)) (length (now out)) ≡ 0 ⌝ }
     ensures { λ r. ⌜ HandsOut (handed settings state (now (frame .entry))) (now (out .entry)) r (now (out .exit)) ⌝ }

@@ -29,7 +29,8 @@ startReasons s first = reason 5 (outside s first) ∷ []
 unfoldable pub startRefusal : Settings → ℕ → ℕ
 startRefusal s first = lowest (settingsReasons s ++ startReasons s first)
 
--- "Its first count is chosen by the caller inside the window (outside it: number 5), and its first multiframe number is 0."
+-- "Its first count is chosen by the caller inside the window (outside it: number 5), and its first
+-- multiframe number is 0."
 abbrev pub startState : ℕ → ℕ → SourceState
 startState first payloadType = record { count = first; multiframe = 0; «payload_type» = payloadType }
 
@@ -42,8 +43,8 @@ abbrev pub startMeaning : SourceStart → Answer SourceState
 startMeaning (New z) = accepted z
 startMeaning (Refused r) = refused (refusalNumber r)
 
--- A call's own lines: 5, "source count outside the window"; 6, "next count outside the window"; 7, "client bytes not exactly the present count";
--- 8, "frame buffer not exactly 4K + 8 bytes".
+-- A call's own lines: 5, "source count outside the window"; 6, "next count outside the window"; 7,
+-- "client bytes not exactly the present count"; 8, "frame buffer not exactly 4K + 8 bytes".
 abbrev pub sourceReasons : Settings → SourceState → ℕ → ℕ → ℕ → List Reason
 sourceReasons s z next clientLength bufferLength =
     reason 5 (outside s (z .count))
@@ -72,7 +73,8 @@ withCheck w = record { jc1 = w .jc1; jc2 = w .jc2; jc3 = remainder (w .jc1) (w .
 unfoldable pub controlBytes : Settings → ℕ → ℕ → Control
 controlBytes s old next = withCheck (wordBytes (announced (tableOf s) old next))
 
--- the frame: the client bytes at the places of the present count, and the word that announces the next
+-- the frame: the client bytes at the places of the present count, and the word that announces the
+-- next
 unfoldable pub written : Settings → SourceState → ℕ → List ℕ → List ℕ
 written s z next client = frame (s .k) client (controlBytes s (z .count) next) (psi z)
 
@@ -88,7 +90,8 @@ sourceState s z next client buffer = cond (eqb (sourceRefusal s z next (length c
 unfoldable pub sourceFrame : Settings → SourceState → ℕ → List ℕ → List ℕ → List ℕ
 sourceFrame s z next client buffer = cond (eqb (sourceRefusal s z next (length client) (length buffer)) 0) (written s z next client) buffer
 
--- What a call promises: the number of its verdict, the new state, and every byte of the frame buffer.
+-- What a call promises: the number of its verdict, the new state, and every byte of the frame
+-- buffer.
 pub record SourcePromise (s : Settings) (z : SourceState) (next : ℕ) (client buffer : List ℕ) (r : SourceResult) (after : List ℕ) : Type 0 where
   pub refusal : verdictNumber (r .answer) ≡ sourceRefusal s z next (length client) (length buffer)
   pub state : r .state ≡ sourceState s z next client buffer

@@ -1,4 +1,5 @@
-// The source: its state, what it answers, and a new source. The call that writes a frame is in the crate mapping.
+// The source: its state, what it answers, and a new source. The call that writes a frame is in the
+// crate gmp_source_call.
 use gmp_refusal::Refusal;
 use gmp_refusal::Verdict;
 use gmp_settings::Settings;

@@ -10,8 +10,9 @@ ghost use lib.ListN.{length};
 ghost use Rattle.gmp_refusal.specs.Refusal.{verdictNumber};
 ghost use Rattle.gmp_source.specs.Source.{sourceRefusal, psi, controlBytes, SourcePromise};
 
-// Writes the next frame: the client bytes at the places of the present count, and the word that announces the next count. A refused call
-// returns the state that it was given and leaves the buffer as it was.
+// Writes the next frame: the client bytes at the places of the present count, and the word that
+// announces the next count. A refused call returns the state that it was given and leaves the
+// buffer as it was.
 pub fn source_call(
     settings: Settings,
     state: SourceState,

@@ -1,4 +1,4 @@
--- A standing is pinned by the paper's word and what it found. Assumes nothing.
+-- A standing is pinned by its name and what it found. Assumes nothing.
 use mathlib.Core.Path.{_≡_, refl, sym, ap, _∙_}
 use mathlib.Core.Bool.{cond}
 use Prim.Native.Nat.{ℕ}
@@ -10,7 +10,7 @@ use Rattle.gmp_standing.specs.declared.Standing.{Standing}
 use Rattle.gmp_standing.specs.declared.Standing.the-variants.{Read, Tracked, Paired, BadCheck, Waiting, Outside}
 use Rattle.gmp_standing.specs.Standing.{Finding, standingMeaning}
 
--- the standing of a finding: no other standing is standingMeaning so
+-- the standing of a finding: no other standing means it
 abbrev standingOf : Finding → Standing
 standingOf f = by (f .count) (getD (f .name) 0 0)
   where

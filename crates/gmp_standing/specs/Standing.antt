@@ -1,4 +1,5 @@
--- The six standings (01, "Sink"): "one of these six standings, each with what it found: a count, or nothing". Assumes nothing.
+-- The six standings (01, "Sink"): "one of these six standings, each with what it found: a count, or
+-- nothing". Assumes nothing.
 use mathlib.Core.Bool.{cond}
 use mathlib.Core.List.{List, [], _∷_}
 use Prim.Native.Nat.{ℕ}
@@ -8,7 +9,7 @@ use Rattle.gmp_standing.specs.declared.Count.the-variants.{Known, Unknow
 use Rattle.gmp_standing.specs.declared.Standing.{Standing}
 use Rattle.gmp_standing.specs.declared.Standing.the-variants.{Read, Tracked, Paired, BadCheck, Waiting, Outside}
 
--- a standing as the paper writes it: its word, in ASCII, and what it found
+-- a standing as the paper writes it: its name, in ASCII, and what it found
 pub record Finding : Type 0 where
   pub name : List ℕ
   pub count : Count
@@ -16,7 +17,7 @@ pub record Finding : Type 0 where
 abbrev pub finding : List ℕ → Count → Finding
 finding name count = record { name = name; count = count }
 
--- the paper's words
+-- the names of the standings (01 writes them in capitals)
 abbrev pub READ : List ℕ
 READ = 82 ∷ 69 ∷ 65 ∷ 68 ∷ []
 
@@ -35,7 +36,7 @@ WAITING = 87 ∷ 65 ∷ 73 ∷ 84 ∷ 73 ∷ 78 ∷ 71 ∷ []
 abbrev pub OUTSIDE : List ℕ
 OUTSIDE = 79 ∷ 85 ∷ 84 ∷ 83 ∷ 73 ∷ 68 ∷ 69 ∷ []
 
--- the paper's word and what was found, for each case
+-- what each case means in the paper: the name, and what was found
 abbrev pub standingMeaning : Standing → Finding
 standingMeaning (Read n) = finding READ (Known n)
 standingMeaning (Tracked n) = finding TRACKED (Known n)
@@ -44,7 +45,8 @@ standingMeaning BadCheck = finding BADCHECK Unknown
 standingMeaning Waiting = finding WAITING Unknown
 standingMeaning Outside = finding OUTSIDE Unknown
 
--- a standing by its number, for programs: READ 1, TRACKED 2, PAIRED 3, BADCHECK 4, WAITING 5, OUTSIDE 6
+-- a standing by its number, for programs: READ 1, TRACKED 2, PAIRED 3, BADCHECK 4, WAITING 5,
+-- OUTSIDE 6
 abbrev pub standingNumber : List ℕ → ℕ
 standingNumber name =
     cond (sameList name READ) 1

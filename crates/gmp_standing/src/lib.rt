@@ -20,7 +20,7 @@ pub enum Standing {
     Outside,
 }
 
-// The words of the standings in the order of their numbers, each in 8 bytes, and how many letters each has.
+// The names of the standings in the order of their numbers, each in 8 bytes, and their lengths.
 pub const NAMES: [u8; 48] = *b"READ    TRACKED PAIRED  BADCHECKWAITING OUTSIDE ";
 
 pub const NAME_LENGTHS: [usize; 6] = [4, 7, 6, 8, 7, 7];

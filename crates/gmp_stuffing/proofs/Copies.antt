@@ -1,4 +1,5 @@
--- Laws of a copy: of no byte, of one byte more, over the end of an earlier copy, and by way of an array. Assumes nothing.
+-- Laws of a copy: of no byte, of one byte more, over the end of an earlier copy, and by way of an
+-- array. Assumes nothing.
 use mathlib.Core.Path.{_≡_, sym, ap, _∙_}
 use mathlib.Core.List.{List, [], _∷_, _++_, append-assoc, append-nil}
 use Prim.Native.Nat.{ℕ, _+_, _-_, _≤_, _<_}
@@ -8,7 +9,8 @@ use lib.ListN.{length, getD, take, drop, set, length-take, length-drop}
 use lib.Seq.{take-all, drop-length, length-take-le, take-take, take-add, take-append-le, take-append-add, drop-append-add, drop-drop, drop-cons, getD-drop, set-at, take-at, append-snoc, paste-zero, paste-suc, length-paste, length-paste-head}
 use Rattle.gmp_stuffing.specs.Copied.{copied}
 
--- A list that begins with p and goes on with d after as many bytes: what stands further on, and one byte stored behind p.
+-- A list that begins with p and goes on with d after as many bytes: what stands further on, and one
+-- byte stored behind p.
 pub drop-past : (p d : List ℕ) (i k : ℕ) → length p ≡ i → drop (i + k) (p ++ drop i d) ≡ drop (i + k) d
 drop-past p d i k l = ap (λ (n : ℕ). drop (n + k) (p ++ drop i d)) (sym l) ∙ drop-append-add p (drop i d) k ∙ drop-drop k i d
 

@@ -1,4 +1,5 @@
--- What other crates cite: the stuffing places, and what is left in a row's buffer where all fits. Assumes nothing.
+-- What other crates cite: the stuffing places, and what is left in a row's buffer where all fits.
+-- Assumes nothing.
 use mathlib.Core.Path.{_≡_, sym, _∙_}
 use mathlib.Core.Bool.{true, true≢false, _&&_}
 use mathlib.Core.List.{List}
@@ -47,7 +48,8 @@ pub placed-fits : (k r : ℕ) (client part : List ℕ) → length part ≡ k →
 unfolding rowPlaced
 placed-fits k r client part l e = rw (l, e)
 
--- a buffer with room for them holds the client bytes of one of four rows in their place, where the count fits
+-- a buffer with room for them holds the client bytes of one of four rows in their place, where the
+-- count fits
 pub taken-fits : (k r C : ℕ) (part out : List ℕ) → length part ≡ k → rowFits k r C ≡ true → C ≤ length out → rowTaken r C part out ≡ rowClient k r C part out
 unfolding rowTaken
 taken-fits k r C part out l e room = rw (l, le-leb C (length out) room, e)

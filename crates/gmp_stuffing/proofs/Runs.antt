@@ -1,5 +1,5 @@
--- Runs: client bytes that stand one after the other, between two stuffing bytes; and what the loops that go from run to run keep.
--- Assumes nothing.
+-- Runs: client bytes that stand one after the other, between two stuffing bytes; and what the loops
+-- that go from run to run keep. Assumes nothing.
 use mathlib.Core.Path.{_≡_, refl, sym, _∙_}
 use mathlib.Core.List.{List, [], _∷_, _++_, append-nil}
 use Prim.Native.Nat.{ℕ, zero, suc, _+_, _-_, _*_, _/_, _%_, _≤_, _<_}
@@ -97,7 +97,8 @@ module _ (r k C : ℕ) (pos : 0 < k) where
   pub row-rest : r * k * C % (4 * k) ≡ r * C % 4 * k
   row-rest = rw (mul-right-comm r k C, mod-mul (r * C * k) {m = 4} (omega arith) pos, mul-div-cancel (r * C) pos, mul-mod-left (r * C) k, add-zero (r * C % 4 * k))
 
--- At the head of a loop over runs, i bytes after place `from`: m client bytes come next, then a stuffing byte; j client bytes came before.
+-- At the head of a loop over runs, i bytes after place `from`: m client bytes come next, then a
+-- stuffing byte; j client bytes came before.
 pub record Head (from C S j m e i : ℕ) : Type 0 where
   pub low : e < S - C
   pub rest : (from + i) * C % S ≡ m * (S - C) + e
@@ -146,7 +147,8 @@ module _ {from C S j m e i : ℕ} (lt : C < S) (v : Head from C S j m e i) where
       let left : (from + i + m) * C % S ≡ e = omega (arith, r .rest, v .rest) in
       record { low = low; rest = rw b (s .rest ∙ rw (a, left) (sym sum)); count = rw b (sym (s .count ∙ rw a (r .count ∙ rw (v .count)))) }
 
-  -- after it comes a run of C / D client bytes, or of one more where the remainders so far make up a whole
+  -- after it comes a run of C / D client bytes, or of one more where the remainders so far make up
+  -- a whole
   pub head-short : e + C % (S - C) < S - C → Head from C S (j + m) (C / (S - C)) (e + C % (S - C)) (i + m + 1)
   head-short h = head-next (C / (S - C)) (e + C % (S - C)) h (omega (arith, div-add-mod' C (S - C)))
 

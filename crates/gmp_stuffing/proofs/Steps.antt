@@ -1,5 +1,5 @@
--- From one payload byte to the next: what the step does to the whole part and the remainder of n × C / S, and so to the byte that is
--- placed and to the bytes that are chosen. Assumes nothing.
+-- From one payload byte to the next: what the step does to the whole part and the remainder of n ×
+-- C / S, and so to the byte that is placed and to the bytes that are chosen. Assumes nothing.
 use mathlib.Core.Path.{_≡_, refl, _∙_, subst}
 use mathlib.Core.Bool.{true, false, cond}
 use mathlib.Core.List.{List, [], _∷_, _++_, append-assoc, append-nil}
@@ -93,7 +93,7 @@ module _ (C S : ℕ) (bytes : List ℕ) (n : ℕ) where
   unfolding placed
   placed-client le s = rw (s .place, add-sub-cancel n 1, places-whole C S le n)
 
--- one byte more of a span, its length, and a span in two parts
+-- one value more, their number, and the values in two parts
 pub tabulate-more : (f : ℕ → ℕ) (n k : ℕ) → tabulate f n (k + 1) ≡ tabulate f n k ++ (f (n + k + 1) ∷ [])
 unfolding tabulate
 tabulate-more f n k = rw (add-one k)

@@ -1,5 +1,5 @@
--- The stuffing places (01, "Placing"). C is the count, S the number of payload bytes. Payload bytes are numbered from 1.
--- Assumes nothing.
+-- The stuffing places (01, "Placing"). C is the count, S the number of payload bytes. Payload bytes
+-- are numbered from 1. Assumes nothing.
 use mathlib.Core.Bool.{Bool, true, false, cond}
 use mathlib.Core.List.{List, [], _∷_, _++_}
 use Prim.Native.Nat.{ℕ, zero, suc, _+_, _-_, _*_, _%_}
@@ -15,12 +15,12 @@ unfoldable pub places : ℕ → ℕ → ℕ → ℕ
 places C S zero = 0
 places C S (suc n) = places C S n + cond (carries C S (suc n)) 1 0
 
--- Payload byte n. "Client bytes keep their order": it is the client byte that as many stand before as there are places before n;
--- "otherwise it is stuffing, written as zero".
+-- Payload byte n. "Client bytes keep their order": it is the client byte that as many stand before
+-- as there are places before n; "otherwise it is stuffing, written as zero".
 unfoldable pub placed : ℕ → ℕ → List ℕ → ℕ → ℕ
 placed C S client n = cond (carries C S n) (getD client (places C S (n - 1)) 0) 0
 
--- f (n + 1), f (n + 2), .., f (n + k)
+-- the k values f (n + 1), f (n + 2), .., f (n + k)
 unfoldable pub tabulate : (ℕ → ℕ) → ℕ → ℕ → List ℕ
 tabulate f n zero = []
 tabulate f n (suc k) = tabulate f n k ++ (f (n + k + 1) ∷ [])

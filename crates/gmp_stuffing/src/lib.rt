@@ -1,13 +1,14 @@
-// The stuffing places of a frame's payload, row by row.
-// Between two stuffing bytes the client bytes are copied as one run: no division and no test for each byte.
+// The stuffing places of a frame's payload, row by row. Between two stuffing bytes the client bytes
+// are copied as one run: no division and no test for each byte.
 ghost use mathlib.Core.Path.{_≡_};
 ghost use Prim.Native.Nat.{_+_, _*_, _≤_, _<_};
 ghost use lib.ListN.{length};
 ghost use Rattle.gmp_stuffing.specs.Row.{rowFits, rowBytes, rowClient, rowPlaced, rowTaken};
 ghost use Rattle.gmp_stuffing.specs.Copied.{copied};
 
-// Writes the payload bytes of row r (from 0) of a frame whose rows have as many of them as the buffer is long. A row that is not one of
-// four, a buffer of 2^32 bytes or more, or client bytes that are more than the payload, leave the buffer as it was.
+// Writes the payload bytes of row r (from 0) of a frame whose rows have as many of them as the
+// buffer is long. A row that is not one of four, a buffer of 2^32 bytes or more, or client bytes
+// that are more than the payload, leave the buffer as it was.
 pub fn place_row(part: &mut [u8], client: &[u8], r: usize)
     ensures { λ _. ⌜ now (part .exit) ≡ rowPlaced r (now (client .entry)) (now (part .entry)) ⌝ }
 {
@@ -22,8 +23,9 @@ pub fn place_row(part: &mut [u8], client: &[u8], r: usize)
     }
 }
 
-// Copies the client bytes among the payload bytes of row r (from 0) to their place in the buffer, and leaves the rest of it. A row that is
-// not one of four, or has 2^32 bytes or more, or a count above the payload or above the buffer's length, leave the buffer as it was.
+// Copies the client bytes among the payload bytes of row r (from 0) to their place in the buffer,
+// and leaves the rest of it. A row that is not one of four, or has 2^32 bytes or more, or a count
+// above the payload or above the buffer's length, leave the buffer as it was.
 pub fn take_row(part: &[u8], count: usize, r: usize, out: &mut [u8])
     ensures { λ _. ⌜ now (out .exit) ≡ rowTaken r count (now (part .entry)) (now (out .entry)) ⌝ }
 {
@@ -40,7 +42,8 @@ pub fn take_row(part: &[u8], count: usize, r: usize, out: &mut [u8])
     }
 }
 
-// Whether r is one of four rows of k payload bytes, with k below 2^32, and c client bytes fit the payload.
+// Whether r is one of four rows of k payload bytes, with k below 2^32, and c client bytes fit the
+// payload.
 fn row_fits(k: usize, r: usize, c: usize) -> bool
     ensures { λ b. ⌜ b ≡ rowFits k r c ⌝ }
 {
@@ -53,8 +56,9 @@ fn row_fits(k: usize, r: usize, c: usize) -> bool
     c <= 4 * k
 }
 
-// Writes the payload bytes of row r where there is stuffing. After a stuffing byte come c / d or c / d + 1 client bytes, d being the
-// number of stuffing bytes of the frame; rest counts up to the longer run. Row r begins after r * c / 4 client bytes.
+// Writes the payload bytes of row r where there is stuffing. After a stuffing byte come c / d or c
+// / d + 1 client bytes, d being the number of stuffing bytes of the frame; rest counts up to the
+// longer run. Row r begins after r * c / 4 client bytes.
 fn place_runs(part: &mut [u8], client: &[u8], r: usize)
     requires { ⌜ (length (now client) < 4 * length (now part)) × (r < 4) × (length (now part) < 4294967296) ⌝ }
     ensures { λ _. ⌜ now (part .exit) ≡ rowBytes (length (now (part .entry))) r (now (client .entry)) ⌝ }
@@ -114,7 +118,8 @@ fn take_runs(part: &[u8], count: usize, r: usize, out: &mut [u8])
     copy_run(out, taken, part, seen, k - seen);
 }
 
-// Copies m bytes of src, from index j on, to dst, from index i on: in blocks, the last of which may lie over the one before.
+// Copies m bytes of src, from index j on, to dst, from index i on: in blocks, the last of which may
+// lie over the one before.
 fn copy_run(dst: &mut [u8], i: usize, src: &[u8], j: usize, m: usize)
     requires { ⌜ (i + m ≤ length (now dst)) × (j + m ≤ length (now src)) ⌝ }
     ensures { λ _. ⌜ now (dst .exit) ≡ copied (now (dst .entry)) i (now (src .entry)) j m ⌝ }

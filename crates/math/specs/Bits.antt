@@ -1,4 +1,5 @@
--- The bits of a byte, most significant first, and the number of places at which two lists of bits differ. Assumes nothing.
+-- The bits of a byte, most significant first, and the number of places at which two lists of bits
+-- differ. Assumes nothing.
 use mathlib.Core.Path.{_≡_, refl}
 use mathlib.Core.Bool.{Bool, true, false, cond, xor}
 use mathlib.Core.List.{List, [], _∷_}

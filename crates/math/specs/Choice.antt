@@ -1,4 +1,5 @@
--- Laws of tests: the definitions of all crates go by cases on numbers through `cond`, `||` and `&&` of the kit. Assumes nothing.
+-- Laws of tests: the definitions of all crates go by cases on numbers through `cond`, `||` and `&&`
+-- of the kit. Assumes nothing.
 use mathlib.Core.Path.{_≡_, refl, sym}
 use mathlib.Core.Bool.{Bool, true, false, true≢false, cond, _||_, _&&_}
 use mathlib.Core.List.{List, [], _∷_}
@@ -12,7 +13,8 @@ sameList [] (y ∷ ys) = false
 sameList (x ∷ xs) [] = false
 sameList (x ∷ xs) (y ∷ ys) = eqb x y && sameList xs ys
 
--- what holds of both values, each where its side of the test is met, holds of the one that is chosen
+-- what holds of both values, each where its side of the test is met, holds of the one that is
+-- chosen
 pub cond-elim : {A : Type 0} (P : A → Type 0) (b : Bool) (x y : A) → (b ≡ true → P x) → (b ≡ false → P y) → P (cond b x y)
 cond-elim P true x y f g = f refl
 cond-elim P false x y f g = g refl

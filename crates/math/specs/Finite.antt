@@ -1,4 +1,5 @@
--- Tests over finitely many numbers: antt computes one test, and a law turns it into the fact at each number. Assumes nothing.
+-- Tests over finitely many numbers: antt computes one test, and a law turns it into the fact at
+-- each number. Assumes nothing.
 use mathlib.Core.Path.{_≡_, subst⁻¹}
 use mathlib.Core.Logic.{⊎-elim}
 use mathlib.Core.Bool.{Bool, true, false, _&&_}

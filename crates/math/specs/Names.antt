@@ -1,5 +1,5 @@
--- Names in one text, each filled up with blanks to one width: a name is cut out of it by its number,
--- from 1. Assumes nothing.
+-- Names in one text, each filled up with blanks to one width: a name is cut out of it by its
+-- number, from 1. Assumes nothing.
 use mathlib.Core.Path.{_≡_}
 use mathlib.Core.List.{List}
 use Prim.Native.Nat.{ℕ, _+_, _-_, _*_, _≤_}

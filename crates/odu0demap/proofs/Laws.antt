@@ -1,4 +1,5 @@
--- A frame of 15,240 bytes is never refused at OPU0's size, and what the sink makes of it is what the program goes on with. Assumes nothing.
+-- A frame of 15,240 bytes is never refused at OPU0's size, and what the sink makes of it is what
+-- the program goes on with. Assumes nothing.
 use mathlib.Core.Path.{_≡_, sym, ap, ap₂, _∙_}
 use mathlib.Core.List.{List, _++_}
 use Prim.Native.Nat.{ℕ}

@@ -31,7 +31,7 @@ standingOf d frame = standingAfter opu0 (d .state) (control frame)
 abbrev pub handedBytes : Demapper → List ℕ → List ℕ
 handedBytes d frame = handed opu0 (d .state) frame
 
--- a new sink, with nothing tallied and no word yet
+-- a new sink, with nothing tallied and no standing yet
 abbrev pub newDemapper : Demapper
 newDemapper = record { state = newSink; tally = record { frames = 0; bad = 0; bytes = 0 }; last = 0 }
 
@@ -51,7 +51,8 @@ sameCount (Known n) Unknown = false
 sameCount Unknown (Known m) = false
 sameCount Unknown Unknown = true
 
--- a standing is that of the frame before: the same word, and the same count found, which the sink's state has kept
+-- a standing is that of the frame before: the same name, and the same count found, which the sink's
+-- state has kept
 abbrev pub isSame : Demapper → Finding → Bool
 isSame d f = eqb (standingNumber (f .name)) (d .last) && sameCount (f .count) (d .state .count)
 
@@ -60,7 +61,8 @@ abbrev pub Goes : Demapper → List ℕ → Next → Type 0
 Goes d frame (From r) = r ≡ demapperAfter d frame
 Goes d frame End = Unit
 
--- A frame taken: its standing, the demapper after it, and the client bytes at the start of the output buffer, with their number.
+-- A frame taken: its standing, the demapper after it, and the client bytes at the start of the
+-- output buffer, with their number.
 pub record Takes (d : Demapper) (frame : List ℕ) (r : Taken) (out : List ℕ) : Type 0 where
   pub standing : standingMeaning (r .standing) ≡ standingOf d frame
   pub after : r .after ≡ demapperAfter d frame

@@ -1,5 +1,6 @@
-// Takes OPU0 frames on standard input and hands out their client bytes on standard output. On standard error it writes a line for the first
-// frame's standing and for each change of it, in its word or in the count found, and at the end the card's tally.
+// Takes OPU0 frames on standard input and hands out their client bytes on standard output. On
+// standard error it writes a line for the first frame's standing and for each change of it, in its
+// name or in the count found, and at the end the card's tally.
 use card_tally::Tally;
 use gmp_sink::SinkAnswer;
 use gmp_sink::SinkState;
@@ -15,7 +16,8 @@ ghost use lib.ListN.{length};
 ghost use Rattle.gmp_standing.specs.Standing.{standingMeaning};
 ghost use Rattle.odu0demap.specs.Demapping.{newDemapper, sameCount, isSame, Goes, Takes};
 
-// The sink's state, the card's tally, and the number of the last standing's word, 0 before the first frame.
+// The sink's state, the card's tally, and the number of the last standing, 0 before the first
+// frame.
 struct Demapper {
     state: SinkState,
     tally: Tally,
@@ -47,7 +49,8 @@ fn main() {
     demap_all();
 }
 
-// Takes frame after frame. A proved loop has to end: this one does at the largest frame number, which no run reaches.
+// Takes frame after frame. A proved loop has to end: this one does at the largest frame number,
+// which no run reaches.
 fn demap_all() {
     let mut demapper = new_demapper();
     let mut frame_number: u64 = 0;
@@ -98,7 +101,8 @@ fn show_end(got: Got) {
     program_stream::say_left(b"odu0demap: ", left);
 }
 
-// Takes a frame, says how its standing changed and writes its client bytes. Where that fails no more is handed out.
+// Takes a frame, says how its standing changed and writes its client bytes. Where that fails no
+// more is handed out.
 fn take_frame(frame_number: u64, demapper: Demapper, frame: &[u8]) -> Next
     requires { ⌜ length (now frame) ≡ 15240 ⌝ }
     ensures { λ r. ⌜ Goes demapper (now (frame .entry)) r ⌝ }
@@ -165,7 +169,8 @@ fn show_count(count: Count) {
     program_stream::say_line(b" ", n as u64);
 }
 
-// Whether a standing is that of the frame before: the same word, and the same count found, which the sink's state has kept.
+// Whether a standing is that of the frame before: the same name, and the same count found, which
+// the sink's state has kept.
 fn is_same(before: Demapper, standing: Standing) -> bool
     ensures { λ r. ⌜ r ≡ isSame before (standingMeaning standing) ⌝ }
 {
@@ -193,7 +198,7 @@ fn is_same_count(one: Count, other: Count) -> bool
     n == m
 }
 
-// Writes the word of a standing to standard error.
+// Writes the name of a standing to standard error.
 fn show_name(standing: Standing) {
     let place = gmp_standing::standing_number(standing) as usize - 1;
     let names: &[u8] = &NAMES;

@@ -1,4 +1,5 @@
--- A mapper that the keeper lets begin goes on for ever: neither the keeper nor the source refuses a call. Assumes nothing.
+-- A mapper that the keeper lets begin goes on for ever: neither the keeper nor the source refuses a
+-- call. Assumes nothing.
 use mathlib.Core.Path.{_≡_, refl, sym, ap, ap₂, subst, _∙_}
 use mathlib.Core.Bool.{Bool, true, false, not, cond}
 use mathlib.Core.List.{List, [], _∷_}

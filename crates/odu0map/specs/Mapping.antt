@@ -57,7 +57,8 @@ abbrev pub Goes : Rate → Mapper → Next → Type 0
 Goes a m (From r) = (r ≡ mapped a m) × Ready a r
 Goes a m End = Unit
 
--- A load mapped: the mapper after it, which goes on, and every byte of the frame, which announces the keeper's next count.
+-- A load mapped: the mapper after it, which goes on, and every byte of the frame, which announces
+-- the keeper's next count.
 pub record Maps (a : Rate) (m : Mapper) (load : List ℕ) (r : Mapper) (frame : List ℕ) : Type 0 where
   pub mapper : r ≡ mapped a m
   pub ready : Ready a r

@@ -1,8 +1,9 @@
-// Maps standard input, a stream of client bytes, into OPU0 frames on standard output, at the rate p / q of client bytes a frame. The two
-// numbers are the program's arguments; with none the rate is 18,671,875 / 1,296.
+// Maps standard input, a stream of client bytes, into OPU0 frames on standard output, at the rate p
+// / q of client bytes a frame. The two numbers are the program's arguments; with none the rate is
+// 18,671,875 / 1,296.
 use gmp_rate::KeeperAnswer;
-use gmp_refusal::NAMES;
 use gmp_refusal::NAME_LENGTHS;
+use gmp_refusal::NAMES;
 use gmp_refusal::Refusal;
 use gmp_refusal::Verdict;
 use gmp_source::SourceStart;
@@ -85,7 +86,8 @@ fn asked_rate() -> Asked {
     Asked::At(Rate { p: p, q: q })
 }
 
-// A new rate keeper, and a new source with the keeper's first count and payload type 7. The source never refuses that count.
+// A new rate keeper, and a new source with the keeper's first count and payload type 7. The source
+// never refuses that count.
 fn new_mapper(rate: Rate) -> Start
     ensures { λ r. ⌜ startMeaning r ≡ startAnswer rate ⌝ }
 {
@@ -112,7 +114,8 @@ fn new_mapper(rate: Rate) -> Start
     }
 }
 
-// Maps load after load, and says how many. A proved loop has to end: this one does at the largest frame number, which no run reaches.
+// Maps load after load, and says how many. A proved loop has to end: this one does at the largest
+// frame number, which no run reaches.
 fn map_all(rate: Rate, new: Mapper)
     requires { ⌜ Ready rate new ⌝ }
 {
@@ -141,7 +144,8 @@ fn map_next(rate: Rate, mapper: Mapper) -> Next
     take_load(rate, mapper, &mut client)
 }
 
-// Reads a load, the present count of client bytes, and maps it, or says what is left where the input ends.
+// Reads a load, the present count of client bytes, and maps it, or says what is left where the
+// input ends.
 fn take_load(rate: Rate, mapper: Mapper, client: &mut [u8]) -> Next
     requires { ⌜ Ready rate mapper × (length (now client) ≡ 14410) ⌝ }
     ensures { λ r. ⌜ Goes rate mapper r ⌝ }
@@ -177,7 +181,8 @@ fn map_load(rate: Rate, mapper: Mapper, load: &[u8]) -> Next
     Next::End
 }
 
-// Makes the frame of a load, which announces the keeper's next count. Neither the keeper nor the source refuses.
+// Makes the frame of a load, which announces the keeper's next count. Neither the keeper nor the
+// source refuses.
 fn make_frame(rate: Rate, mapper: Mapper, load: &[u8], frame: &mut [u8]) -> Mapper
     requires { ⌜ Ready rate mapper × (length (now load) ≡ mapper .source .count) × (length (now frame) ≡ 15240) ⌝ }
     ensures { λ r. ⌜ Maps rate mapper (now (load .entry)) r (now (frame .exit)) ⌝ }
@@ -202,7 +207,7 @@ fn show_totals(frames: u64, bytes: u64) {
     program_stream::say_line(b", bytes ", bytes);
 }
 
-// Says why there is no mapper, by the word and the number of the refusal.
+// Says why there is no mapper, by the name and the number of the refusal.
 fn show_refusal(refusal: Refusal) {
     io::write_all(STDERR_FILENO, b"odu0map: refused, ");
     show_name(refusal);
@@ -214,7 +219,7 @@ fn show_refusal(refusal: Refusal) {
     show_usage();
 }
 
-// Writes the word of a refusal to standard error.
+// Writes the name of a refusal to standard error.
 fn show_name(refusal: Refusal) {
     let place = gmp_refusal::refusal_number(Verdict::Refused(refusal)) as usize - 1;
     let names: &[u8] = &NAMES;

@@ -1,4 +1,5 @@
--- How a number is read digit by digit: a number that leaves 32 bits does not come back. Assumes nothing.
+-- How a number is read digit by digit: a number that leaves 32 bits does not come back. Assumes
+-- nothing.
 use mathlib.Core.Path.{_≡_, refl, sym, ap, _∙_}
 use mathlib.Core.Bool.{Bool, true, false, cond, _||_}
 use mathlib.Core.List.{List, [], _∷_}

@@ -1,4 +1,5 @@
--- The number that a text spells in decimal, in ASCII: one digit or more, of 32 bits. Assumes nothing.
+-- The number that a text spells in decimal, in ASCII: one digit or more, of 32 bits. Assumes
+-- nothing.
 use mathlib.Core.Bool.{Bool, false, cond, _||_}
 use mathlib.Core.List.{List, [], _∷_}
 use Prim.Native.Nat.{ℕ, _+_, _-_, _*_}

@@ -1,11 +1,13 @@
-// What the filters share: whole blocks from a descriptor, numbers from arguments, and messages on standard error.
+// What the filters share: whole blocks from a descriptor, numbers from arguments, and messages on
+// standard error.
 use libc::STDERR_FILENO;
 use libc::STDOUT_FILENO;
 use program_decimal::Number;
 ghost use lib.ListN.{length};
 ghost use Rattle.program_stream.specs.Gather.{Gathers};
 
-// What filling a block came to: all of it, so many bytes before the input ended, or an error (`os::errno`).
+// What filling a block came to: all of it, so many bytes before the input ended, or an error
+// (`os::errno`).
 pub enum Got {
     Whole,
     Rest(usize),

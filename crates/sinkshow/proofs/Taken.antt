@@ -1,4 +1,5 @@
--- A frame of 16 bytes is never refused on these settings, and its line tells what the sink made of it. Assumes nothing.
+-- A frame of 16 bytes is never refused on these settings, and its line tells what the sink made of
+-- it. Assumes nothing.
 use mathlib.Core.Path.{_≡_, ap, _∙_}
 use mathlib.Core.List.{List}
 use Prim.Native.Nat.{ℕ}

@@ -8,7 +8,8 @@ use Rattle.gmp_standing.specs.declared.Count.{Count}
 use Rattle.gmp_standing.specs.declared.Count.the-variants.{Known, Unknown}
 use Rattle.gmp_standing.specs.Standing.{Finding}
 
--- the last decimal digits of n, at most so many: those of its whole tenth, where n is 10 or more, and the last one
+-- the last decimal digits of n, at most so many: those of its whole tenth, where n is 10 or more,
+-- and the last one
 unfoldable pub lastDigits : ℕ → ℕ → List ℕ
 lastDigits zero n = []
 lastDigits (suc most) n = cond (ltb n 10) [] (lastDigits most (n / 10)) ++ (glyph (n % 10) ∷ [])

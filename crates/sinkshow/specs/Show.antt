@@ -23,7 +23,8 @@ pub record Puts (line : List ℕ) (at : ℕ) (text : List ℕ) (r : ℕ) (after 
   pub within : Counts r after
   pub content : take r after ≡ take at line ++ text
 
--- A frame taken by a sink in state z: its line, from the start of the buffer, and the sink's state after it.
+-- A frame taken by a sink in state z: its line, from the start of the buffer, and the sink's state
+-- after it.
 pub record Shows (frameNumber : ℕ) (z : SinkState) (frame : List ℕ) (line : List ℕ) (r : Shown) (after : List ℕ) : Type 0 where
   pub made : Puts line 0 (frameLine frameNumber (length (handed small z frame)) (standingAfter small z (controlOf (small .k) frame))) (r .length) after
   pub state : r .state ≡ stateAfter small z (controlOf (small .k) frame)

@@ -1,5 +1,6 @@
-// Shows what a new sink makes of the 16-byte frames on standard input (K = 2, window 0 to 8): a line for each frame, and a last line where
-// the input ends within one. Every byte of a line is promised by the functions that make it.
+// Shows what a new sink makes of the 16-byte frames on standard input (K = 2, window 0 to 8): a
+// line for each frame, and a last line where the input ends within one. Every byte of a line is
+// promised by the functions that make it.
 use gmp_sink::SinkAnswer;
 use gmp_sink::SinkState;
 use gmp_standing::Count;
@@ -27,7 +28,8 @@ enum Next {
     End,
 }
 
-// Shows frame after frame. A proved loop has to end: this one does at the largest frame number, which no run reaches.
+// Shows frame after frame. A proved loop has to end: this one does at the largest frame number,
+// which no run reaches.
 fn main() {
     let mut state = gmp_sink::new_sink();
     let mut frame_number: u64 = 0;
@@ -61,8 +63,8 @@ fn show_end(got: Got) {
     show_rest(left);
 }
 
-// Takes a frame and writes its line. Where that fails nothing more is shown. Three numbers of up to 20 digits, a word of up to 8 letters
-// and 4 bytes between and after them are 72 bytes.
+// Takes a frame and writes its line. Where that fails nothing more is shown. Three numbers of up to
+// 20 digits, a name of up to 8 letters and 4 bytes between and after them are 72 bytes.
 fn show_frame(frame_number: u64, state: SinkState, frame: &[u8]) -> Next
     requires { ⌜ length (now frame) ≡ 16 ⌝ }
 {
@@ -91,7 +93,8 @@ fn write_line(line: &[u8]) -> bool {
     program_stream::write_out(line, b"sinkshow: standard output")
 }
 
-// Hands a frame to the sink and makes its line. With 16 bytes, these settings and this output buffer no call is refused.
+// Hands a frame to the sink and makes its line. With 16 bytes, these settings and this output
+// buffer no call is refused.
 fn take_frame(frame_number: u64, state: SinkState, frame: &[u8], line: &mut [u8]) -> Shown
     requires { ⌜ (length (now frame) ≡ 16) × (72 ≤ length (now line)) ⌝ }
     ensures { λ r. ⌜ Shows «frame_number» state (now (frame .entry)) (now (line .entry)) r (now (line .exit)) ⌝ }
@@ -125,7 +128,8 @@ fn put_rest(line: &mut [u8], left: usize) -> usize
     b + 1
 }
 
-// Begins a line with the frame number and the number of bytes handed out, a space behind each, and gives its length so far.
+// Begins a line with the frame number and the number of bytes handed out, a space behind each, and
+// gives its length so far.
 fn put_numbers(line: &mut [u8], frame_number: u64, handed: u32) -> usize
     requires { ⌜ 42 ≤ length (now line) ⌝ }
     ensures { λ r. ⌜ Puts (now (line .entry)) 0 (numbersText «frame_number» handed) r (now (line .exit)) ⌝ }
@@ -137,7 +141,8 @@ fn put_numbers(line: &mut [u8], frame_number: u64, handed: u32) -> usize
     b + 1
 }
 
-// Ends a line of `at` bytes so far with the standing, a space, its count or "-" and a newline, and gives the line's length.
+// Ends a line of `at` bytes so far with the standing, a space, its count or "-" and a newline, and
+// gives the line's length.
 fn put_standing(line: &mut [u8], at: usize, standing: Standing) -> usize
     requires { ⌜ at + 30 ≤ length (now line) ⌝ }
     ensures { λ r. ⌜ Puts (now (line .entry)) at (standingText (standingMeaning standing)) r (now (line .exit)) ⌝ }
@@ -149,7 +154,7 @@ fn put_standing(line: &mut [u8], at: usize, standing: Standing) -> usize
     b + 1
 }
 
-// Puts the word of a standing behind the first `at` bytes of a line, and gives the length then.
+// Puts the name of a standing behind the first `at` bytes of a line, and gives the length then.
 fn put_name(line: &mut [u8], at: usize, standing: Standing) -> usize
     requires { ⌜ at + 8 ≤ length (now line) ⌝ }
     ensures { λ r. ⌜ Puts (now (line .entry)) at (standingMeaning standing .name) r (now (line .exit)) ⌝ }

@@ -1,4 +1,5 @@
--- `c_sink::odu0_sink_call` meets its contract: what the call with the tally promises, in numbers. Assumes nothing.
+-- `c_sink::odu0_sink_call` meets its contract: what the call with the tally promises, in numbers.
+-- Assumes nothing.
 use mathlib.Core.Path.{_≡_, _∙_, ap}
 use mathlib.Core.List.{List}
 use Prim.Native.Nat.{ℕ}

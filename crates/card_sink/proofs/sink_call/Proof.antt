@@ -1,7 +1,8 @@
--- `card_sink::sink_call` meets its contract: a walk of its code, by hand. The tally's borrow is opened and read; the output slice is passed on at its
--- own lifetime, share and ghost name; a copy of the frame's slice is kept; `count_call`, of which the proof knows only that it meets its contract,
--- is called; of what it returns the tally is stored, the borrow is closed at it, and the rest is returned.
--- Assumes nothing.
+-- `card_sink::sink_call` meets its contract: a walk of its code, by hand. The tally's borrow is
+-- opened and read; the output slice is passed on at its own lifetime, share and ghost name; a copy
+-- of the frame's slice is kept; `count_call`, of which the proof knows only that it meets its
+-- contract, is called; of what it returns the tally is stored, the borrow is closed at it, and the
+-- rest is returned. Assumes nothing.
 use mathlib.Core.Path.{_≡_, refl, ap}
 use Prim.Native.Nat.{ℕ}
 use mathlib.Core.List.{[], _∷_, List}
@@ -85,8 +86,8 @@ T-vals = LL.vals T.the-type T′.the-laws
 abbrev R-vals : SinkResult → List Val
 R-vals = LL.vals R.the-type R′.the-laws
 
--- the fields of what `count_call` returns: the sink's result at its start, and the tally 32 bytes behind that. The walk names them where it reads a
--- field, since antt would fill them in at length.
+-- the fields of what `count_call` returns: the sink's result at its start, and the tally 32 bytes
+-- behind that. The walk names them where it reads a field, since antt would fill them in at length.
 abbrev parts : Tys
 parts = tcons R′.mir (tcons T′.mir tnil)
 
@@ -164,7 +165,8 @@ module _ {M : Type 1} (𝓤 : URA M) (H : Heap 𝓤) (A : Atoms 𝓤) (W : Given
         -- [obs; the tally's borrow; token 2; token 1; token 0; the output's; the frame's; _9; …]
         opens ! tt T.the-row {h = h} b o (λ vs. spelt ! T.the-row (Is T.the-row) (shows 𝓤 H A T.the-row) T-vals (LL.tells T.the-type T′.the-laws) fullShare h vs b o $
         move ! (1 ∷ []) $ facts ! T.the-row (Is T.the-row) (shows 𝓤 H A T.the-row) h (T-vals h) (λ g.
-        -- [the tally's cell; the open borrow; obs; auth; token 1; token 0; the output's; the frame's; _9; …; _8; …; _7; …; _6; …; _5; …; _4; …; _3; …; _2; …; _1; …; room for _0; …]
+        -- [the tally's cell; the open borrow; obs; auth; token 1; token 0; the output's; the
+        -- frame's; _9; …; _8; …; _7; …; _6; …; _5; …; _4; …; _3; …; _2; …; _1; …; room for _0; …]
         assigns ! (addr ! (from ! (fld ! refl (hop ! (look-in ! 18 (sub ! 0 refl (whole !))) (stop !))))) (from ! (stop !)) (init ! 12 refl (tt, tt)) $
         assigns ! (agg ! (and-then ! (load ! (from ! (stop !)) (look ! 12 refl)) (and-then ! (load ! (from ! (fld ! refl (stop !))) (look-in ! 18 (sub ! 1 refl (whole !)))) (no-more !)))) (from ! (stop !)) (init ! 10 refl (tt, (tt, (record { fits = room .0 }, tt)))) $
         assigns ! (of-opd ! (load ! (from ! (hop ! (look ! 16 refl) (stop !))) (look-raw ! 0 refl))) (from ! (stop !)) (init ! 8 refl (LL.lawful T.the-type T′.the-laws 𝓤 H A W .typed h _ g .0)) $
@@ -176,10 +178,12 @@ module _ {M : Type 1} (𝓤 : URA M) (H : Heap 𝓤) (A : Atoms 𝓤) (W : Given
         use1 W (later (some (λ (r : Counted). ((‵ (flft κ₀ q₀) ⊛ ‵ (flft κ₁ q₁) ⊛ ‵ ftrue) ⊛ ‵ (P.the-row .own r (w ∷ []))) ⊛ raw (ensured 𝓤 H A step.ended (step.clauses 𝓤 H A at-mem run) (κ₀, (κ₁, tt)) (s, (t, (f, (x, (h, tt))))) tt r)))) (id⊢ 𝓤 _) $ await ! tt $ pick ! (λ r.
         split ! $ move ! (1 ∷ []) $ use1 W (some (λ (zs : Last). ‵ (lasts step.ended (κ₀, (κ₁, tt)) (s, (t, (f, (x, (h, tt))))) zs) ⊛ raw (fact 𝓤 (Said r (zs .1 .1 .1 .0))))) (id⊢ 𝓤 _) $ pick ! (λ zs.
         split ! $ move ! (1 ∷ []) $ heard ! (Said r (zs .1 .1 .1 .0)) (λ e. fsplit ! $ drop ! $ fsplit ! $ drop ! $ fsplit ! $ drop ! $ fsplit ! $ fsplit ! $ move ! (1 ∷ []) $ feqL ! (λ l.
-        -- [the last list; true; the tokens and the result; the frame's; the tally's cell; the open borrow; obs; auth; _9; …]
+        -- [the last list; true; the tokens and the result; the frame's; the tally's cell; the open
+        -- borrow; obs; auth; _9; …]
         move ! (1 ∷ []) $ drop ! $ move ! (1 ∷ []) $ split ! $ move ! (1 ∷ []) $ peeks ! P.the-row (Is P.the-row) (shows 𝓤 H A P.the-row) r (w ∷ []) (λ is.
         let fields = LL.owed P.the-type P′.the-laws r _ is in
-        -- [the result; the tokens; the last list; the frame's; the tally's cell; the open borrow; obs; auth; _9; …]
+        -- [the result; the tokens; the last list; the frame's; the tally's cell; the open borrow;
+        -- obs; auth; _9; …]
         land ! (from ! (stop !)) (init ! 14 refl (LL.lawful P.the-type P′.the-laws 𝓤 H A W .typed r _ is .0)) $ rewrite ! 14 (λ (u : Val). ‵ (fat fullShare P′.mir l₆ 0 u)) (ap only (LL.tells P.the-type P′.the-laws r _ is)) refl $
         assigns ! (of-opd ! (load ! (from ! (fld ! {τ = T′.mir} {d = 32} refl (stop !))) (look-in ! 14 {τ = T′.mir} (sub ! {τs = parts} 1 {τ = T′.mir} {d = 32} refl (whole !))))) (from ! (hop ! (look ! 16 refl) (stop !))) (store-raw ! 4 refl (LL.lawful T.the-type T′.the-laws 𝓤 H A W .typed (r .tally) _ (fields .1 .0) .0)) $
         assigns ! (of-opd ! (load ! (from ! (fld ! {τ = R′.mir} {d = 0} refl (stop !))) (look-in ! 14 {τ = R′.mir} (sub ! {τs = parts} 0 {τ = R′.mir} {d = 0} refl (whole !))))) (from ! (stop !)) (init ! 26 refl (LL.lawful R.the-type R′.the-laws 𝓤 H A W .typed (r .result) _ (fields .0) .0)) $

@@ -1,4 +1,5 @@
--- `gmp_control_read::continue_count` meets its contract: each return rewrites with the tests that led to it. Assumes nothing.
+-- `gmp_control_read::continue_count` meets its contract: each return rewrites with the tests that
+-- led to it. Assumes nothing.
 use mathlib.Core.Path.{_≡_, _∙_, ap, ap₂, sym, subst}
 use Prim.Native.Nat.{ℕ, _+_, _<_}
 use native.Mathlib.Omega.{arith}

@@ -1,4 +1,5 @@
--- `gmp_control_read::pair` meets its contract: the first possible count, or where it leads nowhere the second. Assumes nothing.
+-- `gmp_control_read::pair` meets its contract: the first possible count, or where it leads nowhere
+-- the second. Assumes nothing.
 use mathlib.Core.Path.{_≡_, _∙_, ap, sym}
 use Prim.Native.Nat.{ℕ, _+_, _<_}
 use borrow.Author.Needs.{needs}

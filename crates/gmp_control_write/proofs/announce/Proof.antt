@@ -1,4 +1,5 @@
--- `gmp_control_write::announce` meets its contract: each return rewrites with the tests that led to it. Assumes nothing.
+-- `gmp_control_write::announce` meets its contract: each return rewrites with the tests that led to
+-- it. Assumes nothing.
 use mathlib.Core.Path.{_∙_, ap, sym}
 use Prim.Native.Nat.{ℕ}
 use borrow.Author.Tests.{eq-eqb, ne-eqb}

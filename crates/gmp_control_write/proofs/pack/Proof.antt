@@ -1,4 +1,5 @@
--- `gmp_control_write::pack` meets its contract: the word is the sum of its fields, and each byte a part of it. Assumes nothing.
+-- `gmp_control_write::pack` meets its contract: the word is the sum of its fields, and each byte a
+-- part of it. Assumes nothing.
 use mathlib.Core.Path.{_≡_, ap, subst⁻¹}
 use Prim.Native.Nat.{ℕ, _/_, _<_}
 use native.Mathlib.Omega.{arith}

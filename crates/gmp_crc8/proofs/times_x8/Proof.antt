@@ -1,5 +1,6 @@
--- `gmp_crc8::times_x8` meets its contract: the table's rule is one test over its 256 entries, which antt computes. The table is read off the
--- function's own walk, so no copy of it stands here. Assumes nothing.
+-- `gmp_crc8::times_x8` meets its contract: the table's rule is one test over its 256 entries, which
+-- antt computes. The table is read off the function's own walk, so no copy of it stands here.
+-- Assumes nothing.
 use borrow.Author.Needs.{needs}
 use Rattle.math.specs.Bits.{bits}
 use Rattle.math.specs.Finite.{table-rule}

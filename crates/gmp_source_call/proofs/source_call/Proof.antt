@@ -1,4 +1,5 @@
--- `gmp_source_call::source_call` meets its contract: the frame is written where the call is accepted, and nothing is where it is not. Assumes nothing.
+-- `gmp_source_call::source_call` meets its contract: the frame is written where the call is
+-- accepted, and nothing is where it is not. Assumes nothing.
 use mathlib.Core.Path.{_≡_, _∙_, sym, ap}
 use Prim.Native.Nat.{ℕ}
 use lib.ListN.{length}

@@ -1,4 +1,5 @@
--- `gmp_stuffing::copy_block` meets its contract: first the array, then the destination is filled byte by byte. Assumes nothing.
+-- `gmp_stuffing::copy_block` meets its contract: first the array, then the destination is filled
+-- byte by byte. Assumes nothing.
 use mathlib.Core.Path.{_≡_, refl}
 use Prim.Native.Nat.{_+_, _-_, _≤_}
 use native.Mathlib.Omega.{arith}

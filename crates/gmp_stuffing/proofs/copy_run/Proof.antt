@@ -1,4 +1,5 @@
--- `gmp_stuffing::copy_run` meets its contract. The loop has copied k bytes, in whole blocks. Assumes nothing.
+-- `gmp_stuffing::copy_run` meets its contract. The loop has copied k bytes, in whole blocks.
+-- Assumes nothing.
 use mathlib.Core.Path.{_≡_, refl, _∙_}
 use Prim.Native.Nat.{_+_, _-_, _≤_}
 use native.Mathlib.Omega.{arith}

@@ -1,4 +1,5 @@
--- `gmp_stuffing::place_runs` meets its contract. At the loop's head the first i bytes of the row are placed. Assumes nothing.
+-- `gmp_stuffing::place_runs` meets its contract. At the loop's head the first i bytes of the row
+-- are placed. Assumes nothing.
 use mathlib.Core.Path.{_≡_, refl, _∙_}
 use mathlib.Core.List.{List, _++_, append-nil}
 use Prim.Native.Nat.{ℕ, _+_, _-_, _*_, _/_, _≤_, _<_}

@@ -1,5 +1,5 @@
--- `gmp_stuffing::take_runs` meets its contract. At the loop's head the client bytes among the first i bytes of the row are copied.
--- Assumes nothing.
+-- `gmp_stuffing::take_runs` meets its contract. At the loop's head the client bytes among the first
+-- i bytes of the row are copied. Assumes nothing.
 use mathlib.Core.Path.{_≡_, refl, sym, _∙_}
 use mathlib.Core.List.{List, _++_, append-nil, append-assoc}
 use Prim.Native.Nat.{ℕ, _+_, _-_, _*_, _/_, _≤_, _<_}
@@ -66,7 +66,8 @@ module _ {part out₀ : List ℕ} {from C S : ℕ} {out : List ℕ} {j m e i : �
       bytes = rw (chosen-stuffing C S from part (i + m) more (head-stuffing lt (v .head))) (taken m (omega arith) (omega arith));
     }
 
-  -- the last run of the row is there and has room, and after it all client bytes of the row are copied
+  -- the last run of the row is there and has room, and after it all client bytes of the row are
+  -- copied
   module _ (done : length part ≤ i + m) where
     last-room : (j + (length part - i) ≤ length out) × (i + (length part - i) ≤ length part)
     last-room = (omega (arith, there (length part - i) (omega arith) (omega arith), v .same, v .within), omega (arith, v .within))

@@ -1,4 +1,5 @@
--- `odu0demap::demap_all` meets its contract. The frame number grows to the largest of 64 bits and no further. Assumes nothing.
+-- `odu0demap::demap_all` meets its contract. The frame number grows to the largest of 64 bits and
+-- no further. Assumes nothing.
 use Prim.Native.Nat.{_-_, _≤_}
 use borrow.Author.Needs.{needs}
 use Rattle.odu0demap.proofs.demap_all.Statement.{statement}

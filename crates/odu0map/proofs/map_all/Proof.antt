@@ -1,5 +1,5 @@
--- `odu0map::map_all` meets its contract. The mapper goes on at each turn, and the number of frames grows to the largest of 64 bits and no
--- further. Assumes nothing.
+-- `odu0map::map_all` meets its contract. The mapper goes on at each turn, and the number of frames
+-- grows to the largest of 64 bits and no further. Assumes nothing.
 use mathlib.Core.Path.{subst}
 use Prim.Native.Nat.{_-_, _≤_}
 use native.Mathlib.Omega.{arith}

@@ -1,5 +1,5 @@
--- `program_decimal::parse` meets its contract. At each turn the number read so far, with the rest of the text behind it, is what the text spells.
--- Assumes nothing.
+-- `program_decimal::parse` meets its contract. At each turn the number read so far, with the rest
+-- of the text behind it, is what the text spells. Assumes nothing.
 use mathlib.Core.Path.{_≡_, sym, ap, _∙_}
 use Prim.Native.Nat.{_+_, _-_, _≤_, _<_}
 use native.Mathlib.Omega.{arith}

@@ -1,4 +1,5 @@
--- `program_stream::gather` meets its contract. What is done lies within the block, and grows with each read. Assumes nothing.
+-- `program_stream::gather` meets its contract. What is done lies within the block, and grows with
+-- each read. Assumes nothing.
 use mathlib.Core.Path.{_≡_}
 use Prim.Native.Nat.{_-_, _≤_}
 use lib.ListN.{length}

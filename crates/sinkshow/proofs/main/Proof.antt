@@ -1,4 +1,5 @@
--- `sinkshow::main` meets its contract. The frame number grows to the largest of 64 bits and no further. Assumes nothing.
+-- `sinkshow::main` meets its contract. The frame number grows to the largest of 64 bits and no
+-- further. Assumes nothing.
 use Prim.Native.Nat.{_-_, _≤_}
 use borrow.Author.Needs.{needs}
 use Rattle.sinkshow.proofs.main.Statement.{statement}
