@@ -56,8 +56,8 @@ fn row_fits(k: usize, r: usize, c: usize) -> bool
     c <= 4 * k
 }
 
-// Writes the payload bytes of row r where there is stuffing. After a stuffing byte come c / d or c
-// / d + 1 client bytes, d being the number of stuffing bytes of the frame; rest counts up to the
+// Writes the payload bytes of row r where there is stuffing. After a stuffing byte come c / d or
+// c / d + 1 client bytes, d being the number of stuffing bytes of the frame; rest counts up to the
 // longer run. Row r begins after r * c / 4 client bytes.
 fn place_runs(part: &mut [u8], client: &[u8], r: usize)
     requires { ⌜ (length (now client) < 4 * length (now part)) × (r < 4) × (length (now part) < 4294967296) ⌝ }

@@ -1,5 +1,5 @@
-// Maps standard input, a stream of client bytes, into OPU0 frames on standard output, at the rate p
-// / q of client bytes a frame. The two numbers are the program's arguments; with none the rate is
+// Maps standard input, a stream of client bytes, into OPU0 frames on standard output, at the rate
+// p / q of client bytes a frame. The two numbers are the program's arguments; with none the rate is
 // 18,671,875 / 1,296.
 use gmp_rate::KeeperAnswer;
 use gmp_refusal::NAME_LENGTHS;
