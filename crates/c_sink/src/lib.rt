@@ -63,7 +63,7 @@ pub extern "C" fn odu0_sink_call(
         bad: before[1],
         bytes: before[2],
     };
-    let called = card_sink::count_call(settings, state_from(state), frame, out, counted);
+    let called = card_sink::lend_call(settings, state_from(state), frame, out, counted);
     let after = called.tally;
     *tally = [after.frames, after.bad, after.bytes];
     let result = called.result;

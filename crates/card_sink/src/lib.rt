@@ -31,7 +31,25 @@ pub fn sink_call(
     counted.result
 }
 
-// The same with the tally by value, for programs.
+// The same for a caller that keeps its tally by value: it is lent to `sink_call` and taken back.
+pub fn lend_call(
+    settings: Settings,
+    state: SinkState,
+    frame: &[u8],
+    out: &mut [u8],
+    tally: Tally,
+) -> Counted
+    ensures { λ r. ⌜ CallPromise settings state (now (frame .entry)) (now (out .entry)) tally (r .result) (now (out .exit)) (r .tally) ⌝ }
+{
+    let mut kept = tally;
+    let result = sink_call(settings, state, frame, out, &mut kept);
+    Counted {
+        result: result,
+        tally: kept,
+    }
+}
+
+// The call with the tally by value, over which `sink_call` stands.
 pub fn count_call(
     settings: Settings,
     state: SinkState,

@@ -4,4 +4,3 @@ mod Along
 pub mod Claims
 mod Tallied
 mod Observed
-mod Walked

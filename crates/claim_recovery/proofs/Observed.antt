@@ -10,29 +10,18 @@ use Rattle.gmp_refusal.specs.Refusal.{verdictNumber}
 use Rattle.gmp_standing.specs.Standing.{Finding}
 use Rattle.gmp_frame.specs.Frame.{controlOf}
 use Rattle.gmp_source.specs.declared.SourceState.{SourceState}
-use Rattle.gmp_source.specs.Source.{SourcePromise}
 use Rattle.card_tally.specs.declared.Tally.{Tally}
 use Rattle.gmp_sink.specs.declared.SinkState.{SinkState}
 use Rattle.gmp_sink.specs.Sink.{answerMeaning, sinkRefusal, sinkAnswer, standingAfter}
-use Rattle.card_sink.specs.Card.{tallyAfter, CallPromise}
-use Rattle.claim_recovery.specs.Runs.{SourceCall, SinkCall, SourceStep, SinkStep, sourceTakes, sinkTakes, sourceAfter, sinkAfter, sourceSteps, sinkSteps, sinkEnd}
+use Rattle.claim_recovery.specs.Runs.{SourceStep, SinkStep, sourceTakes, sinkTakes, sourceSteps, sinkSteps, sinkEnd}
 use Rattle.claim_recovery.specs.Tallied.{tallyEnd}
-use Rattle.claim_recovery.specs.Observed.{SourceSeen, SinkSeen, SourcePassed, SinkPassed, sourceCalls, sourceTaken, sinkCalls, sinkTaken, AsDefined}
-
--- what is known of an observed call, over what it was given
-source-kept : (x : SourceSeen)
-    → SourcePromise (x .step .call .settings) (x .step .state) (x .step .call .next) (x .step .call .client) (x .step .call .buffer) (x .result) (x .frame)
-source-kept x = rw (← x .lent-client, ← x .lent-buffer) (x .ensured)
-
-sink-kept : (c : SinkSeen)
-    → CallPromise (c .step .call .settings) (c .step .state) (c .step .call .frame) (c .step .call .out) (c .tally) (c .result .result) (c .out) (c .result .tally)
-sink-kept c = rw (← c .lent-frame, ← c .lent-out) (c .ensured)
+use Rattle.claim_recovery.specs.Observed.{SourceSeen, SinkSeen, SourcePassed, SinkPassed, TallyPassed, sourceCalls, sourceTaken, sinkCalls, sinkTaken, sinkMade, AsDefined}
 
 source-is : (z : SourceState) (seen : List SourceSeen) → SourcePassed z seen → sourceTaken seen ≡ sourceSteps z (sourceCalls seen)
 unfolding sourceSteps
 source-is z [] h = refl
 source-is z (x ∷ xs) h =
-    let p = source-kept x in
+    let p = x .kept in
     ap (λ (l : List SourceStep). cond (eqb (verdictNumber (x .result .answer)) 0) (x .step ∷ l) l) (source-is (x .result .state) xs (h .1))
     ∙ ap (λ (n : ℕ). cond (eqb n 0) (x .step ∷ sourceSteps (x .result .state) (sourceCalls xs)) (sourceSteps (x .result .state) (sourceCalls xs))) (p .refusal)
     ∙ ap (λ (q : SourceState). cond (sourceTakes (x .step)) (x .step ∷ sourceSteps q (sourceCalls xs)) (sourceSteps q (sourceCalls xs))) (p .state)
@@ -43,50 +32,56 @@ accepts-cond : (b : Bool) (n : ℕ) (f : Finding) → accepts (cond b (accepted 
 accepts-cond true n f = refl
 accepts-cond false n f = refl
 
-takes-is : (c : SinkSeen) → accepts (answerMeaning (c .result .result .answer)) ≡ sinkTakes (c .step)
+takes-is : (c : SinkSeen) → accepts (answerMeaning (c .result .answer)) ≡ sinkTakes (c .step)
 unfolding sinkAnswer
 takes-is c =
     let d = c .step .call in
-    ap accepts (sink-kept c .sink .answer)
+    ap accepts (c .kept .sink .answer)
     ∙ accepts-cond (sinkTakes (c .step)) (sinkRefusal (d .settings) (length (d .frame)) (length (d .out)))
     (standingAfter (d .settings) (c .step .state) (controlOf (d .settings .k) (d .frame)))
 
-sink-is : (z : SinkState) (y : Tally) (seen : List SinkSeen) (e : SinkState) (t : Tally) → SinkPassed z y seen e t → sinkTaken seen ≡ sinkSteps z (sinkCalls seen)
+sink-is : (z : SinkState) (seen : List SinkSeen) (e : SinkState) → SinkPassed z seen e → sinkTaken seen ≡ sinkSteps z (sinkCalls seen)
 unfolding sinkSteps
-sink-is z y [] e t h = refl
-sink-is z y (c ∷ cs) e t h =
-    let p = sink-kept c .sink in
-    ap (λ (l : List SinkStep). cond (accepts (answerMeaning (c .result .result .answer))) (c .step ∷ l) l) (sink-is (c .result .result .state) (c .result .tally) cs e t (h .2))
-    ∙ ap (λ (b : Bool). cond b (c .step ∷ sinkSteps (c .result .result .state) (sinkCalls cs)) (sinkSteps (c .result .result .state) (sinkCalls cs))) (takes-is c)
+sink-is z [] e h = refl
+sink-is z (c ∷ cs) e h =
+    let p = c .kept .sink in
+    ap (λ (l : List SinkStep). cond (accepts (answerMeaning (c .result .answer))) (c .step ∷ l) l) (sink-is (c .result .state) cs e (h .1))
+    ∙ ap (λ (b : Bool). cond b (c .step ∷ sinkSteps (c .result .state) (sinkCalls cs)) (sinkSteps (c .result .state) (sinkCalls cs))) (takes-is c)
     ∙ ap (λ (q : SinkState). cond (sinkTakes (c .step)) (c .step ∷ sinkSteps q (sinkCalls cs)) (sinkSteps q (sinkCalls cs))) (p .state)
     ∙ ap (λ (q : SinkState). sinkSteps q (c .step .call ∷ sinkCalls cs)) (h .0)
 
-end-is : (z : SinkState) (y : Tally) (seen : List SinkSeen) (e : SinkState) (t : Tally) → SinkPassed z y seen e t → e ≡ sinkEnd z (sinkCalls seen)
+end-is : (z : SinkState) (seen : List SinkSeen) (e : SinkState) → SinkPassed z seen e → e ≡ sinkEnd z (sinkCalls seen)
 unfolding sinkEnd
-end-is z y [] e t h = h .0
-end-is z y (c ∷ cs) e t h =
-    end-is (c .result .result .state) (c .result .tally) cs e t (h .2)
-    ∙ ap (λ (q : SinkState). sinkEnd q (sinkCalls cs)) (sink-kept c .sink .state)
+end-is z [] e h = h
+end-is z (c ∷ cs) e h =
+    end-is (c .result .state) cs e (h .1)
+    ∙ ap (λ (q : SinkState). sinkEnd q (sinkCalls cs)) (c .kept .sink .state)
     ∙ ap (λ (q : SinkState). sinkEnd q (c .step .call ∷ sinkCalls cs)) (h .0)
 
-tally-is : (z : SinkState) (y : Tally) (seen : List SinkSeen) (e : SinkState) (t : Tally) → SinkPassed z y seen e t → t ≡ tallyEnd z y (sinkCalls seen)
+tally-is : (y : Tally) (seen : List SinkSeen) (t : Tally) → TallyPassed y seen t → t ≡ tallyEnd y (sinkMade seen)
 unfolding tallyEnd
-tally-is z y [] e t h = h .1
-tally-is z y (c ∷ cs) e t h =
-    let p = sink-kept c in
-    tally-is (c .result .result .state) (c .result .tally) cs e t (h .2)
-    ∙ ap (λ (q : SinkState). tallyEnd q (c .result .tally) (sinkCalls cs)) (p .sink .state)
-    ∙ ap (λ (w : Tally). tallyEnd (sinkAfter (c .step)) w (sinkCalls cs)) (p .tally)
-    ∙ ap (λ (q : SinkState). tallyEnd q (c .tally) (c .step .call ∷ sinkCalls cs)) (h .0)
-    ∙ ap (λ (w : Tally). tallyEnd z w (c .step .call ∷ sinkCalls cs)) (h .1)
+tally-is y [] t h = h
+tally-is y (c ∷ cs) t h =
+    tally-is (c .tally-after) cs t (h .1)
+    ∙ ap (λ (w : Tally). tallyEnd w (sinkMade cs)) (c .kept .tally)
+    ∙ ap (λ (w : Tally). tallyEnd w (c .step ∷ sinkMade cs)) (h .0)
 
 pub as-defined : AsDefined
 as-defined =
     record {
+      contracts =
+          record {
+            source-call = λ κs s z next client buffer r frame p. p;
+            count-call = λ κs s z frame buffer y r out p. p;
+            lend-call = λ κs s z frame buffer y r out p. p;
+          };
       source = source-is;
-      frame = λ x. source-kept x .frame-buffer;
+      refusal = λ x. x .kept .refusal;
+      frame = λ x. x .kept .frame-buffer;
       sink = sink-is;
-      out = λ c. sink-kept c .sink .out-buffer;
       end = end-is;
+      answer = λ c. c .kept .sink .answer;
+      handed = λ c. c .kept .sink .handed-bytes;
+      out = λ c. c .kept .sink .out-buffer;
       tally = tally-is;
     }

@@ -1,4 +1,4 @@
--- The tally over a sink run is a sum. Assumes nothing.
+-- The tally over a list of sink calls is a sum. Assumes nothing.
 use mathlib.Core.Path.{_≡_, refl, sym, ap, _∙_, subst}
 use mathlib.Core.Bool.{Bool, true, false, cond}
 use mathlib.Core.List.{List, [], _∷_}
@@ -11,11 +11,10 @@ use Rattle.gmp_standing.specs.Standing.{Finding}
 use Rattle.card_tally.specs.declared.Tally.{Tally}
 use Rattle.card_tally.specs.Tally.{added, Of32Bits}
 use Rattle.card_tally.proofs.Laws.{added-nothing, added-twice, added-32-bits}
-use Rattle.gmp_sink.specs.declared.SinkState.{SinkState}
 use Rattle.gmp_sink.proofs.Laws.{answer-accepted, answer-refused}
 use Rattle.card_sink.specs.Card.{tallyBy, tallyAfter}
-use Rattle.claim_recovery.specs.Runs.{SinkCall, SinkStep, sinkTakes, sinkAfter, sinkSteps, answerOf, handedOf}
-use Rattle.claim_recovery.specs.Tallied.{tallyEnd, badIn, badFramesOf, bytesOf, TallySums}
+use Rattle.claim_recovery.specs.Runs.{SinkStep, sinkTakes, answerOf, handedOf}
+use Rattle.claim_recovery.specs.Tallied.{tallyEnd, takenOf, badIn, badFramesOf, bytesOf, TallySums}
 
 -- what these accepted calls add
 abbrev sumOf : Tally → List SinkStep → Tally
@@ -50,8 +49,7 @@ still-32-bits true x y t h = subst Of32Bits (sym (after-accepted x y t)) (added-
 still-32-bits false x y t h = subst Of32Bits (sym (after-refused x y t)) h
 
 pub tally-sums : TallySums
-unfolding tallyEnd sinkSteps badFramesOf bytesOf
-tally-sums z y h [] = sym (added-nothing y h)
-tally-sums z y h (c ∷ cs) =
-    let x : SinkStep = record { call = c; state = z } in
-    tally-sums (sinkAfter x) (after x y) (still-32-bits (sinkTakes x) x y refl h) cs ∙ one-more (sinkTakes x) x y (sinkSteps (sinkAfter x) cs) refl
+unfolding tallyEnd takenOf badFramesOf bytesOf
+tally-sums y h [] = sym (added-nothing y h)
+tally-sums y h (x ∷ xs) =
+    tally-sums (after x y) (still-32-bits (sinkTakes x) x y refl h) xs ∙ one-more (sinkTakes x) x y (takenOf xs) refl

@@ -4,3 +4,4 @@ pub mod Runs
 pub mod Demand
 pub mod Tallied
 pub mod Observed
+pub mod Lent

@@ -1,63 +1,65 @@
 -- Runs as they are observed: of each call what it was given, what it returned and what it left in
--- the lent buffers. All that is known of a call is what its contract ensures, by the contract's own
--- reading (`Learnt`). Such runs are those that the claims are about. Assumes nothing.
+-- the lent buffers. All that is known of a call is the promise of its contract. Such runs are those
+-- that the claims are about. Assumes nothing.
 use mathlib.Core.Path.{_≡_}
 use mathlib.Core.Bool.{Bool, cond}
 use mathlib.Core.List.{List, [], _∷_}
 use Prim.Native.Nat.{ℕ}
 use lib.Dec.{eqb}
+use lib.ListN.{length}
 use contract.Lifetimes.{Lfts}
 use denote.Ref.{RefT, at-last}
 use Rattle.refusals.specs.Table.{accepts}
 use Rattle.gmp_refusal.specs.Refusal.{verdictNumber}
+use Rattle.gmp_settings.specs.declared.Settings.{Settings}
 use Rattle.card_tally.specs.declared.Tally.{Tally}
 use Rattle.gmp_source.specs.declared.SourceState.{SourceState}
 use Rattle.gmp_source.specs.declared.SourceResult.{SourceResult}
+use Rattle.gmp_source.specs.Source.{SourcePromise}
 use Rattle.gmp_source_call.proofs.source_call.Reads as source-call
 use Rattle.gmp_sink.specs.declared.SinkState.{SinkState}
+use Rattle.gmp_sink.specs.declared.SinkResult.{SinkResult}
 use Rattle.gmp_sink.specs.Sink.{answerMeaning}
 use Rattle.card_sink.specs.declared.Counted.{Counted}
+use Rattle.card_sink.specs.Card.{CallPromise}
 use Rattle.card_sink.proofs.count_call.Reads as count-call
-use Rattle.claim_recovery.specs.Runs.{SourceCall, SinkCall, SourceStep, SinkStep, sourceSteps, sinkSteps, sinkEnd, frameOf, outOf}
+use Rattle.card_sink.proofs.lend_call.Reads as lend-call
+use Rattle.claim_recovery.specs.Runs.{SourceCall, SinkCall, SourceStep, SinkStep, refusalOf, sourceSteps, sinkSteps, sinkEnd, frameOf, answerOf, handedOf, outOf}
 use Rattle.claim_recovery.specs.Tallied.{tallyEnd}
 
--- a call of the source: it returned the result and left the frame buffer so
+-- a call of the source: it returned the result, left the frame buffer so, and kept its promise
 pub record SourceSeen : Type 0 where
   pub step : SourceStep
   pub result : SourceResult
   pub frame : List ℕ
-  pub κs : Lfts 2
-  pub client : RefT (List ℕ)
-  pub buffer : RefT (List ℕ)
-  pub lent-client : client .now ≡ step .call .client
-  pub lent-buffer : buffer .now ≡ step .call .buffer
-  pub ensured : source-call.Learnt κs (step .call .settings, (step .state, (step .call .next, (client, (buffer, tt))))) result
-      (step .call .settings, (step .state, (step .call .next, (client, (at-last buffer frame, tt)))))
+  pub kept : SourcePromise (step .call .settings) (step .state) (step .call .next) (step .call .client) (step .call .buffer) result frame
 
--- a call of the sink with the tally y
+-- A call of a sink with the tally y, be it of `sink_call`, which is lent the tally (Lent.antt), or of
+-- `count_call` or `lend_call`, which have it by value: their promise is the same.
 pub record SinkSeen : Type 0 where
   pub step : SinkStep
   pub tally : Tally
-  pub result : Counted
+  pub result : SinkResult
   pub out : List ℕ
-  pub κs : Lfts 2
-  pub lent : RefT (List ℕ)
-  pub buffer : RefT (List ℕ)
-  pub lent-frame : lent .now ≡ step .call .frame
-  pub lent-out : buffer .now ≡ step .call .out
-  pub ensured : count-call.Learnt κs (step .call .settings, (step .state, (lent, (buffer, (tally, tt))))) result
-      (step .call .settings, (step .state, (lent, (at-last buffer out, (tally, tt)))))
+  pub tally-after : Tally
+  pub kept : CallPromise (step .call .settings) (step .state) (step .call .frame) (step .call .out) tally result out tally-after
 
--- each call got the state that the call before it returned, the first one z
+-- "Each call gets the state that the call before it in its list returned", the first one z,
 abbrev pub SourcePassed : SourceState → List SourceSeen → Type 0
 SourcePassed z [] = Unit {0}
 SourcePassed z (x ∷ xs) = (x .step .state ≡ z) × SourcePassed (x .result .state) xs
 
--- and the tally that it left, the first one y; the last call returned the state e and left the
--- tally t
-abbrev pub SinkPassed : SinkState → Tally → List SinkSeen → SinkState → Tally → Type 0
-SinkPassed z y [] e t = (e ≡ z) × (t ≡ y)
-SinkPassed z y (c ∷ cs) e t = (c .step .state ≡ z) × (c .tally ≡ y) × SinkPassed (c .result .result .state) (c .result .tally) cs e t
+-- and the last call of a sink returned the state e. Its tally is free: it is the card's.
+abbrev pub SinkPassed : SinkState → List SinkSeen → SinkState → Type 0
+SinkPassed z [] e = e ≡ z
+SinkPassed z (c ∷ cs) e = (c .step .state ≡ z) × SinkPassed (c .result .state) cs e
+
+-- The card's tally goes through the calls of all its sinks, in the order in which they were made:
+-- each call gets the tally that the call before it left, the first one y, and the last one left t.
+-- Whose states they are given is free.
+abbrev pub TallyPassed : Tally → List SinkSeen → Tally → Type 0
+TallyPassed y [] t = t ≡ y
+TallyPassed y (c ∷ cs) t = (c .tally ≡ y) × TallyPassed (c .tally-after) cs t
 
 -- the calls that were made, and those that no number turned back
 abbrev pub sourceCalls : List SourceSeen → List SourceCall
@@ -74,15 +76,36 @@ sinkCalls (y ∷ ys) = y .step .call ∷ sinkCalls ys
 
 abbrev pub sinkTaken : List SinkSeen → List SinkStep
 sinkTaken [] = []
-sinkTaken (y ∷ ys) = cond (accepts (answerMeaning (y .result .result .answer))) (y .step ∷ sinkTaken ys) (sinkTaken ys)
+sinkTaken (y ∷ ys) = cond (accepts (answerMeaning (y .result .answer))) (y .step ∷ sinkTaken ys) (sinkTaken ys)
 
--- Calls that keep their contracts go as the definitions go: the accepted calls are the steps of the
--- run, their buffers are the frames and the outputs, and the last state and tally are those of the
--- run.
+-- all calls, each with the state that it was given
+abbrev pub sinkMade : List SinkSeen → List SinkStep
+sinkMade [] = []
+sinkMade (y ∷ ys) = y .step ∷ sinkMade ys
+
+-- What the toolchain reads off the contracts of the calls is their promise.
+pub record ContractsPromise : Type 0 where
+  pub source-call : (κs : Lfts 2) (s : Settings) (z : SourceState) (next : ℕ) (client buffer : RefT (List ℕ)) (r : SourceResult) (frame : List ℕ)
+      → source-call.Learnt κs (s, (z, (next, (client, (buffer, tt))))) r (s, (z, (next, (client, (at-last buffer frame, tt)))))
+      → SourcePromise s z next (client .now) (buffer .now) r frame
+  pub count-call : (κs : Lfts 2) (s : Settings) (z : SinkState) (frame buffer : RefT (List ℕ)) (y : Tally) (r : Counted) (out : List ℕ)
+      → count-call.Learnt κs (s, (z, (frame, (buffer, (y, tt))))) r (s, (z, (frame, (at-last buffer out, (y, tt)))))
+      → CallPromise s z (frame .now) (buffer .now) y (r .result) out (r .tally)
+  pub lend-call : (κs : Lfts 2) (s : Settings) (z : SinkState) (frame buffer : RefT (List ℕ)) (y : Tally) (r : Counted) (out : List ℕ)
+      → lend-call.Learnt κs (s, (z, (frame, (buffer, (y, tt))))) r (s, (z, (frame, (at-last buffer out, (y, tt)))))
+      → CallPromise s z (frame .now) (buffer .now) y (r .result) out (r .tally)
+
+-- Calls that keep their promises go as the definitions go. The accepted calls of a run are its
+-- steps, each answers and leaves in its buffer what the step does, and the last state is that of
+-- the run. The tally after the calls of all sinks of a card is that of their steps.
 pub record AsDefined : Type 0 where
+  pub contracts : ContractsPromise
   pub source : (z : SourceState) (seen : List SourceSeen) → SourcePassed z seen → sourceTaken seen ≡ sourceSteps z (sourceCalls seen)
+  pub refusal : (x : SourceSeen) → verdictNumber (x .result .answer) ≡ refusalOf (x .step)
   pub frame : (x : SourceSeen) → x .frame ≡ frameOf (x .step)
-  pub sink : (z : SinkState) (y : Tally) (seen : List SinkSeen) (e : SinkState) (t : Tally) → SinkPassed z y seen e t → sinkTaken seen ≡ sinkSteps z (sinkCalls seen)
+  pub sink : (z : SinkState) (seen : List SinkSeen) (e : SinkState) → SinkPassed z seen e → sinkTaken seen ≡ sinkSteps z (sinkCalls seen)
+  pub end : (z : SinkState) (seen : List SinkSeen) (e : SinkState) → SinkPassed z seen e → e ≡ sinkEnd z (sinkCalls seen)
+  pub answer : (c : SinkSeen) → answerMeaning (c .result .answer) ≡ answerOf (c .step)
+  pub handed : (c : SinkSeen) → c .result .handed ≡ length (handedOf (c .step))
   pub out : (c : SinkSeen) → c .out ≡ outOf (c .step)
-  pub end : (z : SinkState) (y : Tally) (seen : List SinkSeen) (e : SinkState) (t : Tally) → SinkPassed z y seen e t → e ≡ sinkEnd z (sinkCalls seen)
-  pub tally : (z : SinkState) (y : Tally) (seen : List SinkSeen) (e : SinkState) (t : Tally) → SinkPassed z y seen e t → t ≡ tallyEnd z y (sinkCalls seen)
+  pub tally : (y : Tally) (seen : List SinkSeen) (t : Tally) → TallyPassed y seen t → t ≡ tallyEnd y (sinkMade seen)

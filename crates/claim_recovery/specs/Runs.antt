@@ -57,9 +57,13 @@ pub record SinkStep : Type 0 where
   pub call : SinkCall
   pub state : SinkState
 
+-- the number by which a source's call is turned back, 0 where none is
+abbrev pub refusalOf : SourceStep → ℕ
+refusalOf x = sourceRefusal (x .call .settings) (x .state) (x .call .next) (length (x .call .client)) (length (x .call .buffer))
+
 -- whether a call is accepted: no number turns it back
 abbrev pub sourceTakes : SourceStep → Bool
-sourceTakes x = eqb (sourceRefusal (x .call .settings) (x .state) (x .call .next) (length (x .call .client)) (length (x .call .buffer))) 0
+sourceTakes x = eqb (refusalOf x) 0
 
 abbrev pub sinkTakes : SinkStep → Bool
 sinkTakes y = eqb (sinkRefusal (y .call .settings) (length (y .call .frame)) (length (y .call .out))) 0

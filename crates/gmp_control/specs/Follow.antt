@@ -1,4 +1,5 @@
--- What the sink makes of a word that passed the check (01, "Sink", rules 2 and 3). Assumes nothing.
+-- What the sink makes of a word that passed the check (01, "Sink", rules 2 and 3). The clause draws
+-- the hunting for a count as Figure 17-12. Assumes nothing.
 use mathlib.Core.Path.{_≡_}
 use mathlib.Core.Bool.{Bool, cond}
 use Prim.Native.Nat.{ℕ, _+_}

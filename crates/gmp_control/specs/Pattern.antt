@@ -14,7 +14,7 @@ use Rattle.gmp_control.specs.Word.{modulus}
 abbrev pub Table : Type 0
 Table = List ℕ
 
--- the paper's patterns
+-- the paper's patterns (clause 17.7.1, Table 17-4)
 abbrev pub standard : Table
 standard = 0b10101010101010 ∷ 0b01010101010101 ∷ 0b01100110011001 ∷ 0b10011001100110 ∷ []
 

@@ -1,8 +1,9 @@
 -- The frame's layout (01, "Settings and the frame"): four rows of K + 2 bytes. Rows are numbered
 -- from 0 here, payload bytes from 1. Assumes nothing.
+use mathlib.Core.Path.{_≡_}
 use mathlib.Core.Bool.{cond, _&&_}
 use mathlib.Core.List.{List, [], _∷_, _++_}
-use Prim.Native.Nat.{ℕ, _+_, _*_}
+use Prim.Native.Nat.{ℕ, _+_, _*_, _≤_}
 use lib.ListN.{length, getD, take, drop}
 use lib.Dec.{eqb, leb}
 use Rattle.gmp_settings.specs.Grid.{payloadBytes, frameBytes}
@@ -49,3 +50,10 @@ frameWritten k client control psi buffer =
 unfoldable pub clientTaken : ℕ → ℕ → List ℕ → List ℕ → List ℕ
 clientTaken k C bytes out =
     cond (eqb (length bytes) (frameBytes k) && (leb C (payloadBytes k) && leb C (length out))) (clientBytes k C bytes ++ drop C out) out
+
+-- What was written is what is taken out: the client bytes, at the places of their number, for every
+-- grid and every load that fits it, and the control bytes.
+pub record FrameGivesBack : Type 0 where
+  pub client : (k : ℕ) (client : List ℕ) (control : Control) (psi : ℕ) → length client ≤ payloadBytes k
+      → clientBytes k (length client) (frame k client control psi) ≡ client
+  pub control : (k : ℕ) (client : List ℕ) (control : Control) (psi : ℕ) → controlOf k (frame k client control psi) ≡ control

@@ -3,7 +3,7 @@
 // the crate gmp_frame_read.
 ghost use mathlib.Core.Path.{_≡_};
 ghost use lib.ListN.{getD};
-ghost use Rattle.gmp_frame.specs.Frame.{controlOf};
+ghost use Rattle.gmp_frame.specs.Frame.{controlOf, FrameGivesBack};
 
 // The three control bytes of a frame.
 pub struct Control {
@@ -27,6 +27,11 @@ pub fn control_of(frame_in: &[u8], k: u32) -> Control
         jc3: c,
     }
 }
+
+// What was written to a frame is what is taken out of it, for every grid, count and load.
+pub fn frame_gives_back()
+    ensures { λ _. ⌜ FrameGivesBack ⌝ }
+{}
 
 // The byte at an index, or zero past the end.
 fn byte_at(bytes: &[u8], i: usize) -> u8

@@ -1,2 +1,2 @@
 pub mod Laws
-mod Sum
+pub mod Sum

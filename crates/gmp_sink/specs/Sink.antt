@@ -50,7 +50,8 @@ atPlaces k Unknown frame = []
 unfoldable pub handed : Settings → SinkState → List ℕ → List ℕ
 handed s z frame = atPlaces (s .k) (inWindow s (z .count)) frame
 
--- rule 1, "The check fails: count none, word none. BADCHECK", or what the word leads to
+-- rule 1, "The check fails: count none, word none. BADCHECK", or what the word leads to. (Clause
+-- 17.7.1 lets a sink still compare the bits of a bad word with the patterns; 01 does not.)
 unfoldable pub standingAfter : Settings → SinkState → Control → Finding
 standingAfter s z c =
     cond (passes (c .jc1) (c .jc2) (c .jc3)) (found s (z .count) (z .word) (wordBy (c .jc1) (c .jc2))) (finding BADCHECK Unknown)

@@ -92,15 +92,15 @@ module _ (s : Settings) (old next : ℕ) where
       let b = word-bytes (tableOf s) old next in
       (b .0, b .1, remainder-lt (w .jc1) (w .jc2))
 
--- a written frame has these control bytes, and its client bytes come out of it again
-pub control-of-written : (s : Settings) (z : SourceState) (next : ℕ) (client : List ℕ) → controlOf (s .k) (written s z next client) ≡ controlBytes s (z .count) next
-unfolding written
-control-of-written s z next client = control-written (s .k) client (controlBytes s (z .count) next) (psi z)
-
+-- the client bytes of a written frame come out of it again, and it has these control bytes
 pub client-of-written : (s : Settings) (z : SourceState) (next : ℕ) (client : List ℕ) → length client ≤ payloadBytes (s .k)
     → clientBytes (s .k) (length client) (written s z next client) ≡ client
 unfolding written
 client-of-written s z next client h = client-taken (s .k) client (controlBytes s (z .count) next) (psi z) h
+
+pub control-of-written : (s : Settings) (z : SourceState) (next : ℕ) (client : List ℕ) → controlOf (s .k) (written s z next client) ≡ controlBytes s (z .count) next
+unfolding written
+control-of-written s z next client = control-written (s .k) client (controlBytes s (z .count) next) (psi z)
 
 pub length-of-written : (s : Settings) (z : SourceState) (next : ℕ) (client : List ℕ) → length (written s z next client) ≡ frameBytes (s .k)
 unfolding written

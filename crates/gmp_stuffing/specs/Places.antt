@@ -1,8 +1,9 @@
 -- The stuffing places (01, "Placing"). C is the count, S the number of payload bytes. Payload bytes
 -- are numbered from 1. Assumes nothing.
+use mathlib.Core.Path.{_≡_}
 use mathlib.Core.Bool.{Bool, true, false, cond}
 use mathlib.Core.List.{List, [], _∷_, _++_}
-use Prim.Native.Nat.{ℕ, zero, suc, _+_, _-_, _*_, _%_}
+use Prim.Native.Nat.{ℕ, zero, suc, _+_, _-_, _*_, _/_, _%_, _≤_}
 use lib.ListN.{getD}
 use lib.Dec.{ltb}
 
@@ -29,3 +30,8 @@ tabulate f n (suc k) = tabulate f n k ++ (f (n + k + 1) ∷ [])
 unfoldable pub chosen : ℕ → ℕ → ℕ → List ℕ → List ℕ
 chosen C S n [] = []
 chosen C S n (b ∷ bytes) = cond (carries C S (n + 1)) (b ∷ []) [] ++ chosen C S (n + 1) bytes
+
+-- "There are exactly C such places, and among the first n exactly the whole part of n × C / S."
+pub record PlacesCounted : Type 0 where
+  pub all : (C S : ℕ) → C ≤ S → places C S S ≡ C
+  pub first : (C S : ℕ) → C ≤ S → (n : ℕ) → places C S n ≡ n * C / S

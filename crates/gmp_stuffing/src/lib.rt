@@ -3,6 +3,7 @@
 ghost use mathlib.Core.Path.{_≡_};
 ghost use Prim.Native.Nat.{_+_, _*_, _≤_, _<_};
 ghost use lib.ListN.{length};
+ghost use Rattle.gmp_stuffing.specs.Places.{PlacesCounted};
 ghost use Rattle.gmp_stuffing.specs.Row.{rowFits, rowBytes, rowClient, rowPlaced, rowTaken};
 ghost use Rattle.gmp_stuffing.specs.Copied.{copied};
 
@@ -41,6 +42,11 @@ pub fn take_row(part: &[u8], count: usize, r: usize, out: &mut [u8])
         }
     }
 }
+
+// There are exactly C places, and among the first n exactly the whole part of n * C / S.
+pub fn places_counted()
+    ensures { λ _. ⌜ PlacesCounted ⌝ }
+{}
 
 // Whether r is one of four rows of k payload bytes, with k below 2^32, and c client bytes fit the
 // payload.

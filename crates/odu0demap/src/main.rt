@@ -126,7 +126,7 @@ fn demap_frame(demapper: Demapper, frame: &[u8], out: &mut [u8]) -> Taken
 {
     let settings = gmp_settings::opu0();
     let state = demapper.state;
-    let counted = card_sink::count_call(settings, state, frame, out, demapper.tally);
+    let counted = card_sink::lend_call(settings, state, frame, out, demapper.tally);
     let result = counted.result;
     let tally = counted.tally;
     let answer = result.answer;

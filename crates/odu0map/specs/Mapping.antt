@@ -2,7 +2,7 @@
 use mathlib.Core.Path.{_≡_}
 use mathlib.Core.Bool.{false}
 use mathlib.Core.List.{List}
-use Prim.Native.Nat.{ℕ, _+_, _/_, _%_}
+use Prim.Native.Nat.{ℕ, zero, suc, _+_, _/_, _%_}
 use Rattle.refusals.specs.Table.{Answer, accepted, refused, answerBy}
 use Rattle.gmp_refusal.specs.Refusal.{refusalNumber}
 use Rattle.gmp_settings.specs.Settings.{opu0, outside}
@@ -12,6 +12,7 @@ use Rattle.odu0map.specs.declared.Rate.{Rate}
 use Rattle.odu0map.specs.declared.Mapper.{Mapper}
 use Rattle.odu0map.specs.declared.Start.{Start}
 use Rattle.odu0map.specs.declared.Start.the-variants.{New, Refused}
+use Rattle.odu0map.specs.declared.Totals.{Totals}
 use Rattle.odu0map.specs.declared.Next.{Next}
 use Rattle.odu0map.specs.declared.Next.the-variants.{From, End}
 
@@ -63,3 +64,16 @@ pub record Maps (a : Rate) (m : Mapper) (load : List ℕ) (r : Mapper) (frame : 
   pub mapper : r ≡ mapped a m
   pub ready : Ready a r
   pub frame-bytes : frame ≡ written opu0 (m .source) (countFrom a (m .remainder)) load
+
+-- the mapper after n frames, one after the other, and the client bytes that they carry
+unfoldable pub mapperAfter : Rate → Mapper → ℕ → Mapper
+mapperAfter a m zero = m
+mapperAfter a m (suc n) = mapped a (mapperAfter a m n)
+
+unfoldable pub bytesAfter : Rate → Mapper → ℕ → ℕ
+bytesAfter a m zero = 0
+bytesAfter a m (suc n) = bytesAfter a m n + mapperAfter a m n .source .count
+
+-- What is told at the end: so many frames carry so many client bytes, modulo 2^64.
+abbrev pub Counts : Rate → Mapper → Totals → Type 0
+Counts a m r = r .bytes ≡ bytesAfter a m (r .frames) % 18446744073709551616

@@ -14,7 +14,7 @@ use program_decimal::Number;
 use program_stream::Got;
 ghost use mathlib.Core.Path.{_≡_};
 ghost use lib.ListN.{length};
-ghost use Rattle.odu0map.specs.Mapping.{Ready, startMeaning, startAnswer, Goes, Maps};
+ghost use Rattle.odu0map.specs.Mapping.{Ready, startMeaning, startAnswer, Goes, Maps, Counts};
 
 // The rate p / q.
 struct Rate {
@@ -40,6 +40,12 @@ enum Start {
     Refused(Refusal),
 }
 
+// How many frames were written, and the client bytes that they carry, modulo 2^64.
+struct Totals {
+    frames: u64,
+    bytes: u64,
+}
+
 // The mapper to go on from, or that there is nothing more to map.
 enum Next {
     From(Mapper),
@@ -59,7 +65,7 @@ fn main() {
     };
     let start = new_mapper(rate);
     match start {
-        Start::New(mapper) => map_all(rate, mapper),
+        Start::New(mapper) => show_totals(map_all(rate, mapper)),
         Start::Refused(refusal) => show_refusal(refusal),
     }
 }
@@ -114,10 +120,11 @@ fn new_mapper(rate: Rate) -> Start
     }
 }
 
-// Maps load after load, and says how many. A proved loop has to end: this one does at the largest
-// frame number, which no run reaches.
-fn map_all(rate: Rate, new: Mapper)
+// Maps load after load, each frame by the mapper that the frame before it left. A proved loop has to
+// end: this one does at the largest frame number, which no run reaches.
+fn map_all(rate: Rate, new: Mapper) -> Totals
     requires { ⌜ Ready rate new ⌝ }
+    ensures { λ r. ⌜ Counts rate new r ⌝ }
 {
     let mut mapper = new;
     let mut frames: u64 = 0;
@@ -126,12 +133,18 @@ fn map_all(rate: Rate, new: Mapper)
         let count = mapper.source.count as u64;
         let next = map_next(rate, mapper);
         let Next::From(after) = next else {
-            show_totals(frames, bytes);
-            return;
+            return Totals {
+                frames: frames,
+                bytes: bytes,
+            };
         };
         mapper = after;
         frames += 1;
         bytes = std::num::wrapping_add_u64(bytes, count);
+    }
+    Totals {
+        frames: frames,
+        bytes: bytes,
     }
 }
 
@@ -202,9 +215,9 @@ fn make_frame(rate: Rate, mapper: Mapper, load: &[u8], frame: &mut [u8]) -> Mapp
 }
 
 // Says how many frames were written, and how many client bytes they carry.
-fn show_totals(frames: u64, bytes: u64) {
-    program_stream::say(b"odu0map: frames ", frames);
-    program_stream::say_line(b", bytes ", bytes);
+fn show_totals(totals: Totals) {
+    program_stream::say(b"odu0map: frames ", totals.frames);
+    program_stream::say_line(b", bytes ", totals.bytes);
 }
 
 // Says why there is no mapper, by the name and the number of the refusal.

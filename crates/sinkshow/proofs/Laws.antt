@@ -1,5 +1,5 @@
 -- Text put into a line, and numbers in decimal. Assumes nothing.
-use mathlib.Core.Path.{_≡_, sym, ap, _∙_}
+use mathlib.Core.Path.{_≡_, refl, sym, ap, _∙_}
 use mathlib.Core.Bool.{cond}
 use mathlib.Core.List.{List, [], _∷_, _++_, append-assoc}
 use Prim.Native.Nat.{ℕ, zero, suc, _+_, _-_, _*_, _/_, _%_, _^_, _≤_, _<_}
@@ -9,6 +9,7 @@ use native.Mathlib.Omega.{arith}
 use lib.Dec.{ltb, lit<}
 use lib.ListN.{length, take, set, length-append, length-set}
 use lib.Seq.{take-length, take-at, take-suc-set, length-take-le}
+use borrow.Author.Needs.{needs}
 use borrow.Author.Tests.{lt-ltb, le-ltb}
 use borrow.Rule.Slice.PartMut.{midOf, postOf, putMid, same-len-mid}
 use Rattle.io.specs.Digits.{glyph, digits, Fewest}
@@ -118,3 +119,7 @@ name-within Outside = omega arith
 
 pub numbers-within : (frameNumber handed : ℕ) → length (numbersText frameNumber handed) ≤ 42
 numbers-within frameNumber handed = simp length-append (omega (arith, decimal-within frameNumber, decimal-within handed))
+
+-- nothing put into a line
+pub puts-nothing : (line : List ℕ) → Puts line 0 [] 0 line
+puts-nothing line = record { next = refl; kept = refl; within = search needs; content = refl }

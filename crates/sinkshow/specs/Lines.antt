@@ -2,7 +2,7 @@
 use mathlib.Core.Bool.{cond}
 use mathlib.Core.List.{List, [], _∷_, _++_}
 use Prim.Native.Nat.{ℕ, zero, suc, _/_, _%_}
-use lib.Dec.{ltb}
+use lib.Dec.{ltb, eqb}
 use Rattle.io.specs.Digits.{glyph}
 use Rattle.gmp_standing.specs.declared.Count.{Count}
 use Rattle.gmp_standing.specs.declared.Count.the-variants.{Known, Unknown}
@@ -54,3 +54,7 @@ frameLine frameNumber handed f = numbersText frameNumber handed ++ standingText 
 -- "a last line, "LEFT", a space and its length"
 abbrev pub restLine : ℕ → List ℕ
 restLine n = LEFT ++ space ++ decimal n ++ newline
+
+-- "A rest of 1 to 15 bytes gives a last line ..; without a rest there is no such line."
+abbrev pub restText : ℕ → List ℕ
+restText n = cond (eqb n 0) [] (restLine n)

@@ -1,15 +1,17 @@
 -- What the parts of the program promise. Assumes nothing.
 use mathlib.Core.Path.{_≡_}
-use mathlib.Core.List.{List, _++_}
+use mathlib.Core.List.{List, [], _∷_, _++_}
 use Prim.Native.Nat.{ℕ, _+_}
 use lib.ListN.{length, take}
 use Rattle.io.specs.Counts.{Counts}
 use Rattle.gmp_settings.specs.declared.Settings.{Settings}
 use Rattle.gmp_settings.specs.Settings.{newSettings}
 use Rattle.gmp_frame.specs.Frame.{controlOf}
-use Rattle.gmp_sink.specs.declared.SinkState.{SinkState}
-use Rattle.gmp_sink.specs.Sink.{handed, standingAfter, stateAfter}
+use Rattle.gmp_sink.specs.Sink.{newSink, handed, standingAfter, stateAfter}
+use Rattle.sinkshow.specs.declared.Run.{Run}
 use Rattle.sinkshow.specs.declared.Shown.{Shown}
+use Rattle.sinkshow.specs.declared.Next.{Next}
+use Rattle.sinkshow.specs.declared.Next.the-variants.{From, End}
 use Rattle.sinkshow.specs.Lines.{frameLine}
 
 -- "K = 2, window 0 to 8"
@@ -23,8 +25,37 @@ pub record Puts (line : List ℕ) (at : ℕ) (text : List ℕ) (r : ℕ) (after 
   pub within : Counts r after
   pub content : take r after ≡ take at line ++ text
 
--- A frame taken by a sink in state z: its line, from the start of the buffer, and the sink's state
+-- a new run: a new sink, and no frame yet
+abbrev pub newRun : Run
+newRun = record { state = newSink; frames = 0 }
+
+-- a run after one frame more
+abbrev pub runAfter : Run → List ℕ → Run
+runAfter n frame = record { state = stateAfter small (n .state) (controlOf (small .k) frame); frames = n .frames + 1 }
+
+-- and after these frames, one after the other
+unfoldable pub runOver : Run → List (List ℕ) → Run
+runOver n [] = n
+runOver n (f ∷ fs) = runOver (runAfter n f) fs
+
+-- A frame taken: its line, from the start of the buffer, with "frame number from 1", and the run
 -- after it.
-pub record Shows (frameNumber : ℕ) (z : SinkState) (frame : List ℕ) (line : List ℕ) (r : Shown) (after : List ℕ) : Type 0 where
-  pub made : Puts line 0 (frameLine frameNumber (length (handed small z frame)) (standingAfter small z (controlOf (small .k) frame))) (r .length) after
-  pub state : r .state ≡ stateAfter small z (controlOf (small .k) frame)
+pub record Shows (n : Run) (frame : List ℕ) (line : List ℕ) (r : Shown) (after : List ℕ) : Type 0 where
+  pub made :
+      Puts line 0 (frameLine (n .frames + 1) (length (handed small (n .state) frame)) (standingAfter small (n .state) (controlOf (small .k) frame))) (r .length)
+      after
+  pub next : r .after ≡ runAfter n frame
+
+-- what is gone on from: the run after the frame
+abbrev pub Goes : Run → List ℕ → Next → Type 0
+Goes n frame (From r) = r ≡ runAfter n frame
+Goes n frame End = Unit
+
+-- and where the frame is read: the run after some frame of 16 bytes
+abbrev pub GoesOn : Run → Next → Type 0
+GoesOn n (From r) = (frame : List ℕ) × (length frame ≡ 16) × (r ≡ runAfter n frame)
+GoesOn n End = Unit
+
+-- all frames: the run at the end is a new one after some frames, each once and in order
+abbrev pub ShowsAll : Run → Type 0
+ShowsAll r = (frames : List (List ℕ)) × (r ≡ runOver newRun frames)

@@ -10,48 +10,74 @@ use gmp_standing::Standing;
 use libc::STDIN_FILENO;
 use program_stream::Got;
 ghost use mathlib.Core.Path.{_≡_};
-ghost use Prim.Native.Nat.{_+_, _≤_};
+ghost use Prim.Native.Nat.{_+_, _≤_, _<_};
 ghost use lib.ListN.{length};
 ghost use Rattle.gmp_standing.specs.Standing.{standingMeaning};
-ghost use Rattle.sinkshow.specs.Lines.{decimal, countText, numbersText, standingText, restLine};
-ghost use Rattle.sinkshow.specs.Show.{Puts, Shows};
+ghost use Rattle.sinkshow.specs.Lines.{decimal, countText, numbersText, standingText, restLine, restText};
+ghost use Rattle.sinkshow.specs.Show.{newRun, Puts, Shows, Goes, GoesOn, ShowsAll};
 
-// The length of a frame's line, and the sink's state after the frame.
-struct Shown {
-    length: usize,
+// How far a run has come: the sink's state, and how many frames it has taken.
+struct Run {
     state: SinkState,
+    frames: u64,
 }
 
-// The sink's state to go on from, or that there is nothing more to show.
+// The length of a frame's line, and the run after the frame.
+struct Shown {
+    length: usize,
+    after: Run,
+}
+
+// The run to go on from, or that there is nothing more to show.
 enum Next {
-    From(SinkState),
+    From(Run),
     End,
 }
 
-// Shows frame after frame. A proved loop has to end: this one does at the largest frame number,
-// which no run reaches.
+// Shows all frames of the input.
 fn main() {
-    let mut state = gmp_sink::new_sink();
-    let mut frame_number: u64 = 0;
-    while frame_number < u64::MAX {
-        frame_number += 1;
-        let next = show_next(frame_number, state);
+    show_all();
+}
+
+// Shows frame after frame from a new run on, and gives the run at its end. A proved loop has to end:
+// this one does at the largest frame number, which no run reaches.
+fn show_all() -> Run
+    ensures { λ r. ⌜ ShowsAll r ⌝ }
+{
+    let mut run = new_run();
+    while run.frames < u64::MAX {
+        let next = show_next(run);
         let Next::From(after) = next else {
-            return;
+            return run;
         };
-        state = after;
+        run = after;
+    }
+    run
+}
+
+// A new sink, and no frame yet.
+fn new_run() -> Run
+    ensures { λ r. ⌜ r ≡ newRun ⌝ }
+{
+    let state = gmp_sink::new_sink();
+    Run {
+        state: state,
+        frames: 0,
     }
 }
 
 // Reads the next frame and shows it, or what is left where the input ends.
-fn show_next(frame_number: u64, state: SinkState) -> Next {
+fn show_next(run: Run) -> Next
+    requires { ⌜ run .frames < 18446744073709551615 ⌝ }
+    ensures { λ r. ⌜ GoesOn run r ⌝ }
+{
     let mut frame = [0u8; 16];
     let got = program_stream::gather(STDIN_FILENO, &mut frame);
     let Got::Whole = got else {
         show_end(got);
         return Next::End;
     };
-    show_frame(frame_number, state, &frame)
+    show_frame(run, &frame)
 }
 
 // Shows what is left where the input ends, or says why it could not be read.
@@ -65,13 +91,14 @@ fn show_end(got: Got) {
 
 // Takes a frame and writes its line. Where that fails nothing more is shown. Three numbers of up to
 // 20 digits, a name of up to 8 letters and 4 bytes between and after them are 72 bytes.
-fn show_frame(frame_number: u64, state: SinkState, frame: &[u8]) -> Next
-    requires { ⌜ length (now frame) ≡ 16 ⌝ }
+fn show_frame(run: Run, frame: &[u8]) -> Next
+    requires { ⌜ (length (now frame) ≡ 16) × (run .frames < 18446744073709551615) ⌝ }
+    ensures { λ r. ⌜ Goes run (now (frame .entry)) r ⌝ }
 {
     let mut line = [0u8; 72];
-    let shown = take_frame(frame_number, state, frame, &mut line);
+    let shown = take_frame(run, frame, &mut line);
     let length = shown.length;
-    let after = shown.state;
+    let after = shown.after;
     if write_line(&line[..length]) {
         return Next::From(after);
     }
@@ -80,9 +107,6 @@ fn show_frame(frame_number: u64, state: SinkState, frame: &[u8]) -> Next
 
 // Writes the last line, where a byte or more is left.
 fn show_rest(left: usize) {
-    if left == 0 {
-        return;
-    }
     let mut line = [0u8; 72];
     let length = put_rest(&mut line, left);
     write_line(&line[..length]);
@@ -93,13 +117,14 @@ fn write_line(line: &[u8]) -> bool {
     program_stream::write_out(line, b"sinkshow: standard output")
 }
 
-// Hands a frame to the sink and makes its line. With 16 bytes, these settings and this output
-// buffer no call is refused.
-fn take_frame(frame_number: u64, state: SinkState, frame: &[u8], line: &mut [u8]) -> Shown
-    requires { ⌜ (length (now frame) ≡ 16) × (72 ≤ length (now line)) ⌝ }
-    ensures { λ r. ⌜ Shows «frame_number» state (now (frame .entry)) (now (line .entry)) r (now (line .exit)) ⌝ }
+// Hands a frame to the sink and makes its line. With 16 bytes, these settings and this output buffer
+// no call is refused.
+fn take_frame(run: Run, frame: &[u8], line: &mut [u8]) -> Shown
+    requires { ⌜ (length (now frame) ≡ 16) × (72 ≤ length (now line)) × (run .frames < 18446744073709551615) ⌝ }
+    ensures { λ r. ⌜ Shows run (now (frame .entry)) (now (line .entry)) r (now (line .exit)) ⌝ }
 {
     let settings = gmp_settings::new_settings(2, 0, 8);
+    let state = run.state;
     let mut out = [0u8; 8];
     let result = gmp_sink_call::take_frame(settings, state, frame, &mut out);
     let answer = result.answer;
@@ -107,18 +132,33 @@ fn take_frame(frame_number: u64, state: SinkState, frame: &[u8], line: &mut [u8]
     let SinkAnswer::Done(standing) = answer else {
         return Shown {
             length: 0,
-            state: after,
+            after: run,
         };
     };
+    let frame_number = run.frames + 1;
     let at = put_numbers(line, frame_number, result.handed);
     Shown {
         length: put_standing(line, at, standing),
-        state: after,
+        after: Run {
+            state: after,
+            frames: frame_number,
+        },
     }
 }
 
-// Makes the last line, "LEFT" and the number of bytes left, and gives its length.
+// Makes the last line where a byte or more is left, and gives its length: 0 where there is none.
 fn put_rest(line: &mut [u8], left: usize) -> usize
+    requires { ⌜ 26 ≤ length (now line) ⌝ }
+    ensures { λ r. ⌜ Puts (now (line .entry)) 0 (restText left) r (now (line .exit)) ⌝ }
+{
+    if left == 0 {
+        return 0;
+    }
+    put_left(line, left)
+}
+
+// Makes the line "LEFT" with the number of bytes left, and gives its length.
+fn put_left(line: &mut [u8], left: usize) -> usize
     requires { ⌜ 26 ≤ length (now line) ⌝ }
     ensures { λ r. ⌜ Puts (now (line .entry)) 0 (restLine left) r (now (line .exit)) ⌝ }
 {

@@ -38,8 +38,8 @@ array-read-t20 c = search needs
 state-from-requires : tie.Need-state-from-requires
 state-from-requires c κs = search needs
 
-count-call-requires : tie.Need-count-call-requires
-count-call-requires c κs = search needs
+lend-call-requires : tie.Need-lend-call-requires
+lend-call-requires c κs = search needs
 
 sink-reply-requires : tie.Need-sink-reply-requires
 sink-reply-requires c κs = search needs
@@ -54,7 +54,7 @@ returns c =
     let frame = g .frame .now in
     let out = g .out .now in
     let state = c .before .before .before .before .before .before .before .before .state-from .ensures in
-    let p = c .before .before .before .before .before .before .count-call .ensures in
+    let p = c .before .before .before .before .before .before .lend-call .ensures in
     record {
       reply = c .sink-reply .ensures ∙ sink-meaning s (g .state) _ (stateFrom (g .state)) frame out _ _ state (p .sink);
       out-buffer = p .sink .out-buffer ∙ ap (λ (z : SinkState). sinkOut s z frame out) state;
@@ -69,7 +69,7 @@ odu0-sink-call-spec =
     array-read-t17
     array-read-t20
     state-from-requires
-    count-call-requires
+    lend-call-requires
     sink-reply-requires
     same-length
     returns)

@@ -62,7 +62,7 @@ use Rattle.card_sink.proofs.count_call as step
 use Rattle.card_sink.proofs.count_call.Symbol as step-def
 use Rattle.card_sink.proofs.count_call.Symbol.{name as #card-sink·count-call}
 use Rattle.card_sink.proofs.count_call.Met as step-thm
-use Rattle.card_sink.proofs.sink_call.Key.{name as #card·sink-call}
+use Rattle.card_sink.proofs.sink_call.Key.{name as #card-sink·sink-call}
 use Rattle.card_sink.proofs.sink_call as call
 use Rattle.card_sink.proofs.sink_call.Statement as stated
 use Rattle.card_sink.proofs.sink_call.Code as code
@@ -212,6 +212,6 @@ pub sink-call-spec : {M : Type 1} → stated.statement M
 unfolding code.routine tablesOf
 sink-call-spec 𝓤 H 𝓜 𝓖 𝓡 =
     entered 𝓤 H (tripleOf 𝓤 H (𝓖 .A) call.signature (call.spec 𝓤 H (𝓖 .A) (𝓜 .mem) (𝓡 .run)))
-    (tables 𝓤 H 𝓜 𝓡 code.env .C) (tables 𝓤 H 𝓜 𝓡 code.env .Λ) #card·sink-call code.function (code.unfolded 𝓤 H 𝓜 𝓡)
+    (tables 𝓤 H 𝓜 𝓡 code.env .C) (tables 𝓤 H 𝓜 𝓡 code.env .Λ) #card-sink·sink-call code.function (code.unfolded 𝓤 H 𝓜 𝓡)
     (call-meets 𝓤 H (𝓖 .A) (givenOf 𝓤 H 𝓜 𝓖) (𝓜 .mem) (𝓡 .run) (tablesOf 𝓤 H 𝓜 (tables 𝓤 H 𝓜 𝓡 code.env))
     (cited 𝓤 H (Step 𝓤 H (𝓖 .A) (𝓜 .mem) (𝓡 .run)) 𝓜 𝓡 code.env #card-sink·count-call step-def.routine code.calls-card-sink·count-call (step-thm.met 𝓤 H 𝓜 𝓖 𝓡)))

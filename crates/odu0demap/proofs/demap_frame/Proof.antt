@@ -7,8 +7,8 @@ use Rattle.odu0demap.proofs.demap_frame.Tie as tie
 opu0-requires : tie.Need-opu0-requires
 opu0-requires c κs = search needs
 
-count-call-requires : tie.Need-count-call-requires
-count-call-requires c κs = search needs
+lend-call-requires : tie.Need-lend-call-requires
+lend-call-requires c κs = search needs
 
 enum-known-answer : tie.Need-enum-known-answer
 enum-known-answer c = search needs
@@ -23,7 +23,7 @@ returns : tie.Need-returns
 returns c =
     let start = c .before .before .before .before .before .before .before .before .before .before .before .before .before in
     let g = start .args in
-    let k = c .before .before .before .before .before .before .before .count-call in
+    let k = c .before .before .before .before .before .before .before .lend-call in
     let promise = rw (c .before .before .before .before .before .before .before .before .before .before .opu0 .ensures) at (k .ensures) in
     absurd
     (not-refused (g .demapper) (g .frame .now) (g .out .now) (start .pre .0) (start .pre .1) (k .result .result) _ (k .result .tally)
@@ -39,7 +39,7 @@ returns-2 : tie.Need-returns-2
 returns-2 c =
     let start = c .before .before .before .before .before .before .before .before .before .before .before .before .before .before .before in
     let g = start .args in
-    let k = c .before .before .before .before .before .before .before .before .before .count-call in
+    let k = c .before .before .before .before .before .before .before .before .before .lend-call in
     let promise = rw (c .before .before .before .before .before .before .before .before .before .before .before .before .opu0 .ensures) at (k .ensures) in
     takes (g .demapper) (g .frame .now) (g .out .now) (start .pre .0) (start .pre .1) (k .result .result) _ (k .result .tally) promise _
     (c .before .before .answer .given .1) _ (c .standing-number .ensures)
@@ -49,7 +49,7 @@ demap-frame-spec =
     tie.close
     (tie.spec
     opu0-requires
-    count-call-requires
+    lend-call-requires
     enum-known-answer
     enum-told
     same-length

@@ -39,6 +39,9 @@ map-all-requires c κs =
     let m = c .before .start .given in
     starts-ready a (m .0 .0) (sym (ap startMeaning (m .1)) ∙ c .before .before .before .new-mapper .ensures)
 
+show-totals-requires : tie.Need-show-totals-requires
+show-totals-requires c κs = search needs
+
 enum-known-start-2 : tie.Need-enum-known-start-2
 enum-known-start-2 c = search needs
 
@@ -65,6 +68,7 @@ main-spec =
     new-mapper-requires
     enum-known-start
     map-all-requires
+    show-totals-requires
     enum-known-start-2
     show-refusal-requires
     returns-2

@@ -1,27 +1,27 @@
 -- `odu0map::map_all` meets its contract. The mapper goes on at each turn, and the number of frames
 -- grows to the largest of 64 bits and no further. Assumes nothing.
 use mathlib.Core.Path.{subst}
-use Prim.Native.Nat.{_-_, _≤_}
-use native.Mathlib.Omega.{arith}
+use Prim.Native.Nat.{_-_}
 use borrow.Author.Needs.{needs}
-use Rattle.odu0map.specs.Mapping.{Ready, Goes}
+use Rattle.odu0map.specs.Mapping.{Goes}
+use Rattle.odu0map.proofs.Laws.{Along, along-start, along-next}
 use Rattle.odu0map.proofs.map_all.Statement.{statement}
 use Rattle.odu0map.proofs.map_all.Tie as tie
 
 abbrev Inv-loop : tie.InvT-loop
-Inv-loop rate mapper₀ frames₀ bytes₀ mapper frames bytes = Ready rate mapper × (frames ≤ 18446744073709551615)
+Inv-loop rate mapper₀ frames₀ bytes₀ mapper frames bytes = Along rate mapper₀ mapper frames bytes
 
 abbrev μ-loop : tie.MeasureT-loop
 μ-loop rate mapper₀ frames₀ bytes₀ mapper frames bytes = 18446744073709551615 - frames
 
 loop-holds : tie.Need-loop-holds Inv-loop μ-loop
-loop-holds c = search needs
+loop-holds c = along-start (c .args .rate) (c .args .new) (c .pre)
 
 cast-count : tie.Need-cast-count Inv-loop μ-loop
 cast-count c = search needs
 
 map-next-requires : tie.Need-map-next-requires Inv-loop μ-loop
-map-next-requires c κs = search needs
+map-next-requires c κs = c .before .before .loop .inv .ready
 
 enum-known-next : tie.Need-enum-known-next Inv-loop μ-loop
 enum-known-next c = search needs
@@ -29,11 +29,8 @@ enum-known-next c = search needs
 enum-told : tie.Need-enum-told Inv-loop μ-loop
 enum-told c = search needs
 
-show-totals-requires : tie.Need-show-totals-requires Inv-loop μ-loop
-show-totals-requires c κs = search needs
-
 returns : tie.Need-returns Inv-loop μ-loop
-returns c = search needs
+returns c = c .before .before .before .before .before .loop .inv .sum
 
 add-frames : tie.Need-add-frames Inv-loop μ-loop
 add-frames c = search needs
@@ -48,10 +45,11 @@ loop-again : tie.Need-loop-again Inv-loop μ-loop
 loop-again c =
     let g = c .before .before .before .before .before .before .before .before .args in
     let l = c .before .before .before .before .before .before .before .loop in
-    (subst (Goes (g .rate) (l .mapper)) (c .before .before .next .given .1) (c .before .before .before .before .map-next .ensures) .1, omega arith)
+    let goes = subst (Goes (g .rate) (l .mapper)) (c .before .before .next .given .1) (c .before .before .before .before .map-next .ensures) in
+    along-next (g .rate) (g .new) (l .mapper) (l .frames) (l .bytes) (l .inv) (c .before .before .before .before .before .before .loop-test .taken) _ goes _ (c .wrapping-add-u64 .ensures)
 
 returns-2 : tie.Need-returns-2 Inv-loop μ-loop
-returns-2 c = search needs
+returns-2 c = c .before .loop .inv .sum
 
 pub map-all-spec : {M : Type 1} → statement M
 map-all-spec =
@@ -64,7 +62,6 @@ map-all-spec =
     map-next-requires
     enum-known-next
     enum-told
-    show-totals-requires
     returns
     add-frames
     wrapping-add-u64-requires

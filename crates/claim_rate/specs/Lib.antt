@@ -1,0 +1,2 @@
+-- The rate keeper over whole lists of its calls, as they are observed. Assumes nothing.
+pub mod Observed

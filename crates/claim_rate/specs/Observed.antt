@@ -1,0 +1,53 @@
+-- A rate keeper as it is observed: of each call what it was given and what it returned. All that is
+-- known of a call is what the contract of `next_count` says. Assumes nothing.
+use mathlib.Core.Path.{_≡_}
+use mathlib.Core.Bool.{true}
+use mathlib.Core.List.{List, [], _∷_, _++_}
+use Prim.Native.Nat.{ℕ, _+_, _*_, _/_, _<_}
+use lib.ListN.{length}
+use contract.Lifetimes.{Lfts}
+use Rattle.refusals.specs.Table.{accepts}
+use Rattle.gmp_settings.specs.declared.Settings.{Settings}
+use Rattle.gmp_rate.specs.declared.KeeperResult.{KeeperResult}
+use Rattle.gmp_rate.specs.Rate.{answerMeaning, resultMeaning, keeperCall, firstRemainder}
+use Rattle.gmp_rate.specs.Sum.{KeeperCall, given, countsFrom, sum}
+use Rattle.gmp_rate.proofs.next_count.Reads as next-count
+
+-- a call with the remainder r: it returned the result, and kept its promise
+pub record KeeperSeen : Type 0 where
+  pub call : KeeperCall
+  pub r : ℕ
+  pub result : KeeperResult
+  pub kept : resultMeaning result ≡ keeperCall (call .settings) (call .p) (call .q) r
+
+-- each call got the remainder that the call before it returned, the first one r
+abbrev pub Passed : ℕ → List KeeperSeen → Type 0
+Passed r [] = Unit {0}
+Passed r (x ∷ xs) = (x .r ≡ r) × Passed (x .result .remainder) xs
+
+-- the accepted calls have this p and this q; the settings, and all of a refused call, are free
+abbrev pub SharedSeen : ℕ → ℕ → List KeeperSeen → Type 0
+SharedSeen p q [] = Unit {0}
+SharedSeen p q (x ∷ xs) = (accepts (answerMeaning (x .result .answer)) ≡ true → (x .call .p ≡ p) × (x .call .q ≡ q)) × SharedSeen p q xs
+
+-- the calls, and the counts that they gave
+abbrev pub callsOf : List KeeperSeen → List KeeperCall
+callsOf [] = []
+callsOf (x ∷ xs) = x .call ∷ callsOf xs
+
+abbrev pub countsOf : List KeeperSeen → List ℕ
+countsOf [] = []
+countsOf (x ∷ xs) = given (answerMeaning (x .result .answer)) ++ countsOf xs
+
+pub record ObservedCounts : Type 0 where
+  -- what the toolchain reads off the contract of `next_count` is its promise
+  pub contract : (κs : Lfts 0) (s : Settings) (p q r : ℕ) (k : KeeperResult) → next-count.Learnt κs (s, (p, (q, (r, tt)))) k (s, (p, (q, (r, tt))))
+      → resultMeaning k ≡ keeperCall s p q r
+  -- the counts are those of the definitions
+  pub as-defined : (r : ℕ) (seen : List KeeperSeen) → Passed r seen → countsOf seen ≡ countsFrom r (callsOf seen)
+  -- from any remainder r below q, t counts add up to the whole part of (r + t × p) / q
+  pub from-any : (p q r : ℕ) → r < q → (seen : List KeeperSeen) → Passed r seen → SharedSeen p q seen
+      → sum (countsOf seen) ≡ (r + length (countsOf seen) * p) / q
+  -- the first t counts of a new keeper add up to the whole part of t × p / q
+  pub new : (p q : ℕ) (seen : List KeeperSeen) → 0 < q → Passed (firstRemainder q) seen → SharedSeen p q seen
+      → sum (countsOf seen) ≡ length (countsOf seen) * p / q
