@@ -37,8 +37,8 @@ unfoldable pub bytesOf : List SinkStep → ℕ
 bytesOf [] = 0
 bytesOf (y ∷ ys) = length (handedOf y) + bytesOf ys
 
--- After any list of sink calls of any sinks the tally is the sum over the accepted ones, each number
--- staying at the largest; refused calls add nothing.
+-- After any list of sink calls of any sinks the tally is the sum over the accepted ones, each
+-- number staying at the largest; refused calls add nothing.
 abbrev pub TallySums : Type 0
 TallySums =
     (y : Tally) → Of32Bits y → (calls : List SinkStep)

@@ -120,8 +120,8 @@ fn new_mapper(rate: Rate) -> Start
     }
 }
 
-// Maps load after load, each frame by the mapper that the frame before it left. A proved loop has to
-// end: this one does at the largest frame number, which no run reaches.
+// Maps load after load, each frame by the mapper that the frame before it left. A proved loop has
+// to end: this one does at the largest frame number, which no run reaches.
 fn map_all(rate: Rate, new: Mapper) -> Totals
     requires { ⌜ Ready rate new ⌝ }
     ensures { λ r. ⌜ Counts rate new r ⌝ }

@@ -39,8 +39,8 @@ fn main() {
     show_all();
 }
 
-// Shows frame after frame from a new run on, and gives the run at its end. A proved loop has to end:
-// this one does at the largest frame number, which no run reaches.
+// Shows frame after frame from a new run on, and gives the run at its end. A proved loop has to
+// end: this one does at the largest frame number, which no run reaches.
 fn show_all() -> Run
     ensures { λ r. ⌜ ShowsAll r ⌝ }
 {
@@ -117,8 +117,8 @@ fn write_line(line: &[u8]) -> bool {
     program_stream::write_out(line, b"sinkshow: standard output")
 }
 
-// Hands a frame to the sink and makes its line. With 16 bytes, these settings and this output buffer
-// no call is refused.
+// Hands a frame to the sink and makes its line. With 16 bytes, these settings and this output
+// buffer no call is refused.
 fn take_frame(run: Run, frame: &[u8], line: &mut [u8]) -> Shown
     requires { ⌜ (length (now frame) ≡ 16) × (72 ≤ length (now line)) × (run .frames < 18446744073709551615) ⌝ }
     ensures { λ r. ⌜ Shows run (now (frame .entry)) (now (line .entry)) r (now (line .exit)) ⌝ }

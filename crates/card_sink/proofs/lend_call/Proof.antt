@@ -189,7 +189,8 @@ module _ {M : Type 1} (𝓤 : URA M) (H : Heap 𝓤) (A : Atoms 𝓤) (W : Given
         pass1 ! (init ! 12 refl (LL.lawful T.the-type T′.the-laws 𝓤 H A W .typed h _ h-is .0)) $ pass0 ! $
         -- what the parameters own, and the tokens, are taken apart
         move ! (25 ∷ []) $ fsplit ! $ drop ! $ fsplit ! $ drop ! $ fsplit ! $ move ! (1 ∷ []) $ fsplit ! $ move ! (1 ∷ []) $ drop ! $ move ! (26 ∷ []) $ split ! $ move ! (1 ∷ []) $ split ! $ move ! (1 ∷ []) $ drop ! $
-        -- [token 1; token 0; X; F; _11; …; _10; …; _9; …; _8; …; _7; …; _6; …; _5; …; _4; …; _3; …; _2; …; _1; …; room for _0; …]
+        -- [token 1; token 0; X; F; _11; …; _10; …; _9; …; _8; …; _7; …; _6; …; _5; …; _4; …; _3; …;
+        -- _2; …; _1; …; room for _0; …]
         assigns ! (of-opd ! (load ! (from ! (stop !)) (look ! 16 refl))) (from ! (stop !)) (init ! 14 refl (LL.lawful T.the-type T′.the-laws 𝓤 H A W .typed h _ h-is .0)) $
         assigns ! (addr ! (from ! (fld ! refl (hop ! (look-in ! 18 (sub ! 0 refl (whole !))) (stop !))))) (from ! (stop !)) (init ! 10 refl (tt, tt)) $
         assigns ! (agg ! (and-then ! (load ! (from ! (stop !)) (look ! 10 refl)) (and-then ! (load ! (from ! (fld ! refl (stop !))) (look-in ! 18 (sub ! 1 refl (whole !)))) (no-more !)))) (from ! (stop !)) (init ! 8 refl (tt, (tt, (record { fits = room .0 }, tt)))) $
@@ -205,7 +206,8 @@ module _ {M : Type 1} (𝓤 : URA M) (H : Heap 𝓤) (A : Atoms 𝓤) (W : Given
         use1 W (later (some (λ (r : SinkResult). ((‵ (flft κ₀ q₀) ⊛ ‵ (flft κ₁ q₁) ⊛ ‵ (flft (α ∷ []) fullShare) ⊛ ‵ ftrue) ⊛ ‵ (R.the-row .own r (w ∷ []))) ⊛ raw (ensured 𝓤 H A call.ended (call.clauses 𝓤 H A at-mem run) (κ₀, (κ₁, (α ∷ [], tt))) (s, (t, (f, (x, (lent-ref l₆ α δ, tt))))) tt r)))) (id⊢ 𝓤 _) $ await ! tt $ pick ! (λ r.
         split ! $ move ! (1 ∷ []) $ use1 W (some (λ (zs : Last). ‵ (lasts call.ended (κ₀, (κ₁, (α ∷ [], tt))) (s, (t, (f, (x, (lent-ref l₆ α δ, tt))))) zs) ⊛ raw (fact 𝓤 (Said r (zs .1 .1 .1 .0) (zs .1 .1 .1 .1 .0))))) (id⊢ 𝓤 _) $ pick ! (λ zs.
         split ! $ move ! (1 ∷ []) $ heard ! (Said r (zs .1 .1 .1 .0) (zs .1 .1 .1 .1 .0)) (λ e. fsplit ! $ drop ! $ fsplit ! $ drop ! $ fsplit ! $ drop ! $ fsplit ! $ fsplit ! $ move ! (1 ∷ []) $ feqL ! (λ l. move ! (1 ∷ []) $ fsplit ! $
-        -- [the last tally; true; the last list; the tokens and the result; F; the lender's part; _11; …]
+        -- [the last tally; true; the last list; the tokens and the result; F; the lender's part;
+        -- _11; …]
         move ! (1 ∷ []) $ drop ! $ move ! (2 ∷ []) $ split ! $ move ! (1 ∷ []) $ facts ! R.the-row (Is R.the-row) (shows 𝓤 H A R.the-row) r (w ∷ []) (λ is.
         -- [the tokens; the last tally; the last list; F; the lender's part; _11; …]
         land ! (from ! (stop !)) (init ! 13 refl (LL.lawful R.the-type R′.the-laws 𝓤 H A W .typed r _ is .0)) $ rewrite ! 13 (λ (u : Val). ‵ (fat fullShare R′.mir l₇ 0 u)) (ap only (LL.tells R.the-type R′.the-laws r _ is)) refl $
@@ -215,7 +217,8 @@ module _ {M : Type 1} (𝓤 : URA M) (H : Heap 𝓤) (A : Atoms 𝓤) (W : Given
         use1 W (‵ (fat fullShare T′.mir l₆ 0 (T-val (zs .1 .1 .1 .1 .0))) ⊛ ‵ (T.the-row .own (zs .1 .1 .1 .1 .0) (T-vals (zs .1 .1 .1 .1 .0)))) (out-mem 𝓤 H A W (zs .1 .1 .1 .1 .0) l₆) $ split ! $
         move ! (1 ∷ []) $ facts ! T.the-row (Is T.the-row) (shows 𝓤 H A T.the-row) (zs .1 .1 .1 .1 .0) (T-vals (zs .1 .1 .1 .1 .0)) (λ y-is.
         let whole-is : Is P.the-row (whole-of r (zs .1 .1 .1 .1 .0)) (LL.vals P.the-type P′.the-laws (whole-of r (zs .1 .1 .1 .1 .0))) = LL.owes P.the-type P′.the-laws (whole-of r (zs .1 .1 .1 .1 .0)) (R-is r w is, (y-is, tt)) in
-        -- [_6; true; token 1; token 0; the last list; F; _11; …; _10; …; _9; …; _8; …; _7; …; what frees _6; _5; …; _4; …; _3; …; _2; …; _1; …; room for _0; …]
+        -- [_6; true; token 1; token 0; the last list; F; _11; …; _10; …; _9; …; _8; …; _7; …; what
+        -- frees _6; _5; …; _4; …; _3; …; _2; …; _1; …; room for _0; …]
         assigns ! (of-opd ! (load ! (from ! (stop !)) (look ! 0 refl))) (from ! (stop !)) (init ! 6 refl (LL.lawful T.the-type T′.the-laws 𝓤 H A W .typed (zs .1 .1 .1 .1 .0) _ y-is .0)) $
         assigns ! (agg ! (and-then ! (load ! (from ! (stop !)) (look ! 14 refl)) (and-then ! (load ! (from ! (stop !)) (look ! 6 refl)) (no-more !)))) (from ! (stop !)) (init ! 27 refl (LL.lawful P.the-type P′.the-laws 𝓤 H A W .typed (whole-of r (zs .1 .1 .1 .1 .0)) _ whole-is .0)) $
         returns ! (look ! 27 refl) $ forget ! 0 refl $ forget ! 6 refl $ forget ! 8 refl $ forget ! 10 refl $ forget ! 12 refl $ forget ! 14 refl $ forget ! 17 refl $ forget ! 19 refl $ forget ! 21 refl $ forget ! 23 refl $ forget ! 25 refl $ forget ! 27 refl $

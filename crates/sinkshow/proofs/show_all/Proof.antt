@@ -1,5 +1,5 @@
--- `sinkshow::show_all` meets its contract. Each turn goes on from the run after one more frame, whose
--- number grows to the largest of 64 bits and no further. Assumes nothing.
+-- `sinkshow::show_all` meets its contract. Each turn goes on from the run after one more frame,
+-- whose number grows to the largest of 64 bits and no further. Assumes nothing.
 use mathlib.Core.Path.{subst}
 use Prim.Native.Nat.{_-_}
 use native.Mathlib.Omega.{arith}
