@@ -37,8 +37,10 @@ pub fn opu0() -> Settings
 pub fn judge(settings: Settings) -> Verdict
     ensures { λ r. ⌜ verdictNumber r ≡ lowest (settingsReasons settings) ⌝ }
 {
-    let grid = gmp_refusal::refuse_if(Verdict::Accepted, is_bad_grid(settings), Refusal::Grid);
-    gmp_refusal::refuse_if(grid, is_bad_window(settings), Refusal::Window)
+    let bad_grid = is_bad_grid(settings);
+    let bad_window = is_bad_window(settings);
+    let grid = gmp_refusal::refuse_if(Verdict::Accepted, bad_grid, Refusal::Grid);
+    gmp_refusal::refuse_if(grid, bad_window, Refusal::Window)
 }
 
 // Number 1: K is 0 or above 3,808.
