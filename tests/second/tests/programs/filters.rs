@@ -11,7 +11,7 @@ const TYPE: u8 = 7;
 const USUAL: (u32, u32) = (18_671_875, 1296);
 
 /// What odu0map writes, by the second implementation: the frames, and what it says of them.
-fn mapped(input: &[u8], (p, q): (u32, u32)) -> Written {
+pub fn mapped(input: &[u8], (p, q): (u32, u32)) -> Written {
     let mut keeper = Keeper::new();
     let mut source = Source::new(OPU0, keeper.call(OPU0, p, q).unwrap(), TYPE).unwrap();
     let (mut out, mut rest, mut frames) = (Vec::new(), input, 0);
@@ -29,7 +29,7 @@ fn mapped(input: &[u8], (p, q): (u32, u32)) -> Written {
 
 /// What odu0demap writes, by the second implementation: the client bytes, a line for each change of
 /// standing, and the tally.
-fn demapped(input: &[u8]) -> Written {
+pub fn demapped(input: &[u8]) -> Written {
     let (mut sink, mut tally, mut before) = (Sink::new(), Tally::default(), None);
     let (mut out, mut said) = (Vec::new(), String::new());
     let frames = input.chunks_exact(FRAME);
@@ -156,61 +156,50 @@ fn slow_pieces() {
     assert!(back == demapped(&frames.out), "{}", back.said);
 }
 
+/// A rest is told exactly where the input ends within a load. The fourth has a byte more.
 #[test]
-fn short_and_empty_input() {
-    assert_eq!(run("odu0map", &[], vec![], None).said, "odu0map: frames 0, bytes 0\n");
-    assert_eq!(
-        run("odu0demap", &[], vec![], None).said,
-        "odu0demap: frames 0, BADCHECK 0, bytes 0\n"
-    );
-    for length in [1, 14406] {
-        let said = format!("odu0map: {length} bytes left at the end\nodu0map: frames 0, bytes 0\n");
-        assert_eq!(run("odu0map", &[], vec![vec![1; length]], None), Written { out: vec![], said });
-    }
-    for length in [1, 15239] {
-        let said = format!(
-            "odu0demap: {length} bytes left at the end\nodu0demap: frames 0, BADCHECK 0, bytes 0\n"
-        );
-        assert_eq!(
-            run("odu0demap", &[], vec![vec![1; length]], None),
-            Written { out: vec![], said }
-        );
+fn input_that_ends_around_a_load() {
+    let input = Random::new(16).bytes(57_630);
+    let cases = [
+        (0, "odu0map: frames 0, bytes 0\n"),
+        (1, "odu0map: 1 bytes left at the end\nodu0map: frames 0, bytes 0\n"),
+        (14_406, "odu0map: 14406 bytes left at the end\nodu0map: frames 0, bytes 0\n"),
+        (14_407, "odu0map: frames 1, bytes 14407\n"),
+        (14_408, "odu0map: 1 bytes left at the end\nodu0map: frames 1, bytes 14407\n"),
+        (43_220, "odu0map: 14406 bytes left at the end\nodu0map: frames 2, bytes 28814\n"),
+        (43_221, "odu0map: frames 3, bytes 43221\n"),
+        (57_628, "odu0map: 14407 bytes left at the end\nodu0map: frames 3, bytes 43221\n"),
+        (57_629, "odu0map: frames 4, bytes 57629\n"),
+        (57_630, "odu0map: 1 bytes left at the end\nodu0map: frames 4, bytes 57629\n"),
+    ];
+    for (length, said) in cases {
+        let written = run("odu0map", &[], vec![input[..length].to_vec()], None);
+        assert_eq!(written.said, said, "{length} bytes");
+        assert!(written == mapped(&input[..length], USUAL), "{length} bytes");
     }
 }
 
+/// A rest is told exactly where the input ends within a frame.
 #[test]
-fn wrong_arguments() {
-    let usage = "usage: odu0map [P Q], client bytes a frame as P / Q: Q from 1 to 65535, \
-                 P / Q from 14405 to 14410\n";
-    let not_decimal = "odu0map: the arguments are not two decimal numbers of 32 bits\n";
-    let long = "1".repeat(70);
-    let cases: [(&[&str], &str); 12] = [
-        (&["14407"], not_decimal),
-        (&["14407", "1", "1"], not_decimal),
-        (&["14407", ""], not_decimal),
-        (&["x", "1"], not_decimal),
-        (&["-14407", "1"], not_decimal),
-        (&["14407", "1 "], not_decimal),
-        (&["4294967296", "298130"], not_decimal),
-        (&[&long, "1"], not_decimal),
-        (&["14407", "0"], "odu0map: refused, divisor (number 3)\n"),
-        (&["4294967295", "65536"], "odu0map: refused, divisor (number 3)\n"),
-        (&["14404", "1"], "odu0map: refused, rate (number 4)\n"),
-        (&["14411", "1"], "odu0map: refused, rate (number 4)\n"),
+fn input_that_ends_around_a_frame() {
+    let frames = mapped(&Random::new(17).bytes(57_629), USUAL).out;
+    let (first, third) = ("frame 1: READ 14407\n", "frame 3: TRACKED 14408\n");
+    let cases = [
+        (0, ["", "", ""], [0, 0]),
+        (1, ["", "", "odu0demap: 1 bytes left at the end\n"], [0, 0]),
+        (15_239, ["", "", "odu0demap: 15239 bytes left at the end\n"], [0, 0]),
+        (15_240, [first, "", ""], [1, 0]),
+        (15_241, [first, "", "odu0demap: 1 bytes left at the end\n"], [1, 0]),
+        (30_479, [first, "", "odu0demap: 15239 bytes left at the end\n"], [1, 0]),
+        (30_480, [first, "", ""], [2, 14_407]),
+        (45_719, [first, "", "odu0demap: 15239 bytes left at the end\n"], [2, 14_407]),
+        (45_720, [first, third, ""], [3, 28_814]),
+        (45_721, [first, third, "odu0demap: 1 bytes left at the end\n"], [3, 28_814]),
     ];
-    for (arguments, message) in cases {
-        let written = run("odu0map", arguments, vec![vec![0; 20_000]], None);
-        assert_eq!(
-            written,
-            Written { out: vec![], said: format!("{message}{usage}") },
-            "{arguments:?}"
-        );
+    for (length, lines, [taken, bytes]) in cases {
+        let totals = format!("odu0demap: frames {taken}, BADCHECK 0, bytes {bytes}\n");
+        let written = run("odu0demap", &[], vec![frames[..length].to_vec()], None);
+        assert_eq!(written.said, lines.concat() + &totals, "{length} bytes");
+        assert!(written == demapped(&frames[..length]), "{length} bytes");
     }
-    let said = "odu0demap: it takes no argument\n\
-                usage: odu0demap, frames on standard input, client bytes on standard output\n"
-        .to_string();
-    assert_eq!(
-        run("odu0demap", &["x"], vec![vec![0; 20_000]], None),
-        Written { out: vec![], said }
-    );
 }

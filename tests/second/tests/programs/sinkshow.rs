@@ -17,7 +17,7 @@ fn shown(pieces: Vec<Vec<u8>>, pause: Option<Duration>) -> String {
 }
 
 /// The same by the second implementation.
-fn lines(input: &[u8]) -> String {
+pub fn lines(input: &[u8]) -> String {
     let (mut sink, mut tally, mut out) = (Sink::new(), Tally::default(), [0; 8]);
     let mut lines = String::new();
     let frames = input.chunks_exact(16);
@@ -72,6 +72,30 @@ fn nothing_and_rests() {
         let wanted = format!("1 0 WAITING -\n2 0 READ 4\n3 4 READ 4\nLEFT {rest}\n");
         assert_eq!(shown(vec![input], None), wanted);
     }
+}
+
+/// The lines of frames of zeros, in which the sink reads the count 0.
+fn zero_lines(frames: usize) -> String {
+    (1..=frames).map(|frame_number| format!("{frame_number} 0 READ 0\n")).collect()
+}
+
+#[test]
+fn a_rest_has_a_line_exactly_from_1_to_15_bytes() {
+    for frames in [0, 1, 2, 300] {
+        for rest in 0..=15 {
+            let last = if rest == 0 { String::new() } else { format!("LEFT {rest}\n") };
+            let shown = shown(vec![vec![0; 16 * frames + rest]], None);
+            assert_eq!(shown, zero_lines(frames) + &last, "{frames} frames and {rest} bytes");
+        }
+    }
+}
+
+#[test]
+fn frames_are_numbered_from_1() {
+    assert_eq!(shown(vec![vec![0; 16 * 1200]], None), zero_lines(1200));
+    let shown = shown(vec![Random::new(7).bytes(16 * 700)], None);
+    let numbers: Vec<_> = shown.lines().map(|line| line.split_once(' ').unwrap().0).collect();
+    assert_eq!(numbers, (1..=700).map(|number| number.to_string()).collect::<Vec<_>>());
 }
 
 #[test]

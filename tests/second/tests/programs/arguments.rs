@@ -1,0 +1,138 @@
+//! Arguments that are wrong: the program says so, shows how it is called, and writes nothing.
+
+use crate::feed::{run, Written};
+use crate::filters::mapped;
+use second::Random;
+
+const NOT_DECIMAL: &str = "odu0map: the arguments are not two decimal numbers of 32 bits\n";
+const USAGE: &str = "usage: odu0map [P Q], client bytes a frame as P / Q: Q from 1 to 65535, \
+                     P / Q from 14405 to 14410\n";
+
+/// Asserts that odu0map turns these arguments back with a message.
+fn assert_wrong(arguments: &[&str], message: &str) {
+    let written = run("odu0map", arguments, vec![vec![0; 20_000]], None);
+    let wanted = Written { out: vec![], said: format!("{message}{USAGE}") };
+    assert_eq!(written, wanted, "{arguments:?}");
+}
+
+/// Asserts that odu0map takes neither P nor Q for a decimal number if it is spelled so.
+fn assert_not_decimal(text: &str) {
+    assert_wrong(&[text, "1"], NOT_DECIMAL);
+    assert_wrong(&["14407", text], NOT_DECIMAL);
+    assert_wrong(&[text, text], NOT_DECIMAL);
+}
+
+/// Asserts that odu0map maps 14,407 bytes a frame.
+fn assert_right(arguments: &[&str]) {
+    let input = Random::new(31).bytes(3 * 14407 + 5);
+    let written = run("odu0map", arguments, vec![input.clone()], None);
+    assert!(written == mapped(&input, (14407, 1)), "{arguments:?}: {}", written.said);
+}
+
+/// A number with zeros before it, in so many digits.
+fn padded(number: &str, digits: usize) -> String {
+    "0".repeat(digits - number.len()) + number
+}
+
+#[test]
+fn too_few_and_too_many() {
+    let long = padded("14407", 5000);
+    let cases: [&[&str]; 7] = [
+        &["14407"],
+        &[""],
+        &["14407 1"],
+        &[&long],
+        &["14407", "1", "1"],
+        &["14407", "1", ""],
+        &["14407", "1", "14407", "1"],
+    ];
+    for arguments in cases {
+        assert_wrong(arguments, NOT_DECIMAL);
+    }
+}
+
+#[test]
+fn empty_or_blank() {
+    for text in ["", " ", "\t", "\n", " 14407", "14407 ", "14 407", "1\t", "\n1", "1\n"] {
+        assert_not_decimal(text);
+    }
+}
+
+#[test]
+fn with_a_sign() {
+    for text in ["+", "-", "+1", "-1", "+14407", "-14407", "-0", "1-", "14,407", "14407.0", "1/1"] {
+        assert_not_decimal(text);
+    }
+}
+
+/// Letters, the characters beside the digits, and a digit of another script.
+#[test]
+fn with_a_letter() {
+    for text in ["x", "14407x", "x14407", "144o7", "0x3847", "1e4", "1u", "/1", "1:", "\u{FF11}"] {
+        assert_not_decimal(text);
+    }
+}
+
+#[test]
+fn more_than_32_bits() {
+    // 2^32, 14407 above 2^32, and 14407 above 2^64.
+    for text in ["4294967296", "4294981703", "18446744073709566023"] {
+        assert_not_decimal(text);
+        assert_not_decimal(&padded(text, 64));
+    }
+    for digits in [11, 63, 64] {
+        assert_not_decimal(&"1".repeat(digits));
+        assert_not_decimal(&"9".repeat(digits));
+    }
+    // The largest number of 32 bits is one.
+    assert_wrong(&["4294967295", "65535"], "odu0map: refused, rate (number 4)\n");
+    assert_wrong(&["4294967295", "65536"], "odu0map: refused, divisor (number 3)\n");
+    assert_wrong(&["4294967295", "4294967295"], "odu0map: refused, divisor (number 3)\n");
+}
+
+#[test]
+fn zeros_before_a_number() {
+    for digits in [6, 10, 11, 20, 63, 64] {
+        assert_right(&[&padded("14407", digits), "1"]);
+        assert_right(&["14407", &padded("1", digits)]);
+        assert_right(&[&padded("14407", digits), &padded("1", digits)]);
+    }
+}
+
+/// An argument has at most 64 bytes: none is cut short, whatever its beginning spells.
+#[test]
+fn of_more_than_64_digits() {
+    for digits in [65, 66, 128, 4096, 5000, 100_000] {
+        assert_not_decimal(&padded("14407", digits));
+        assert_not_decimal(&padded("1", digits));
+        assert_not_decimal(&padded("", digits));
+        assert_not_decimal(&"1".repeat(digits));
+    }
+    for behind in ["0", "7", "x", " ", &"0".repeat(5000)] {
+        assert_not_decimal(&(padded("14407", 64) + behind));
+        assert_not_decimal(&(padded("1", 64) + behind));
+    }
+}
+
+#[test]
+fn a_rate_that_is_refused() {
+    let zero = padded("", 64);
+    assert_wrong(&["14407", "0"], "odu0map: refused, divisor (number 3)\n");
+    assert_wrong(&["14407", &zero], "odu0map: refused, divisor (number 3)\n");
+    assert_wrong(&["14407", "65536"], "odu0map: refused, divisor (number 3)\n");
+    assert_wrong(&[&zero, "1"], "odu0map: refused, rate (number 4)\n");
+    assert_wrong(&["14404", "1"], "odu0map: refused, rate (number 4)\n");
+    assert_wrong(&["14411", "1"], "odu0map: refused, rate (number 4)\n");
+}
+
+#[test]
+fn odu0demap_takes_none() {
+    let said = "odu0demap: it takes no argument\n\
+                usage: odu0demap, frames on standard input, client bytes on standard output\n";
+    let long = padded("", 5000);
+    let cases: [&[&str]; 5] = [&["x"], &[""], &["14407", "1"], &[&long], &["-"; 100]];
+    for arguments in cases {
+        let written = run("odu0demap", arguments, vec![vec![0; 20_000]], None);
+        assert_eq!(written, Written { out: vec![], said: said.into() }, "{arguments:?}");
+    }
+}
