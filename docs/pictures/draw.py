@@ -3,9 +3,10 @@
 
     docs/pictures/draw.py [--check]
 
-frame.svg is the frame's layout, recovery.svg the two-frame recovery, and crates.svg the groups of
-crates as crates.txt lists them. With --check nothing is written; the exit status is 1 where a
-stored picture is not the one drawn.
+frame.svg is the frame's layout, control.svg the bits of the control bytes, standings.svg the sink
+as a state machine, recovery.svg the two-frame recovery as tests/span.txt has it, and crates.svg the
+groups of crates as crates.txt lists them. With --check nothing is written; the exit status is 1
+where a stored picture is not the one drawn.
 """
 import itertools
 import pathlib
@@ -13,6 +14,7 @@ import sys
 
 HERE = pathlib.Path(__file__).resolve().parent
 CRATES = HERE.parents[1] / "crates.txt"
+SPAN = HERE.parents[1] / "tests" / "span.txt"
 WIDTH = 900
 
 INK, DIM, BAND = "#222", "#777", "#f4f4f4"
@@ -76,13 +78,14 @@ class Picture:
 def layout():
     """A frame on the grid K = 2 with count 3: places 3, 6 and 8 of 8 carry client bytes."""
     k, count = 2, 3
-    p = Picture(680, 300, "The layout of a frame")
+    p = Picture(710, 300, "The layout of a frame")
     p.text(20, 28, "A frame: four rows of K + 2 bytes (here K = 2, S = 8, count 3)", 15)
-    cell, top, left = 92, 56, 70
+    cell, top, left = 92, 56, 120
     second = ["JC1", "JC2", "JC3", "reserved"]
     for row in range(4):
         y = top + row * 48
-        p.text(20, y + 28, f"row {row + 1}", 13, fill=DIM)
+        p.text(20, y + 18, f"row {row + 1}", 13, fill=DIM)
+        p.text(20, y + 34, f"({row} in the specs)", 11, fill=DIM)
         p.box(left, y, cell, 40, OVER if row < 3 else CONTROL, "reserved" if row < 3 else "PSI")
         p.box(left + cell, y, cell, 40, CONTROL if row < 3 else OVER, second[row])
         for column in range(k):
@@ -98,31 +101,171 @@ def layout():
     return p
 
 
-def recovery():
-    """A sink over a hit: two clean frames after it the bytes are handed out again."""
-    p = Picture(860, 250, "Back after two clean frames")
-    head = "A hit, and the way back: after two clean frames in succession the sink holds"
-    p.text(20, 28, f"{head} the source's count", 15)
-    frames = [
-        ("TRACKED", "load handed out", CLIENT, "clean"),
-        ("BADCHECK", "load handed out", HIT, "damaged"),
-        ("WAITING", "nothing", STUFF, "clean: first"),
-        ("PAIRED", "nothing", CONTROL, "clean: second"),
-        ("TRACKED", "load handed out", CLIENT, "clean"),
-        ("READ", "load handed out", CLIENT, "clean"),
+# The table of changes (01, "Control word"): the change, its pattern over C1 to C14, II DI, and the
+# worked frame of 01 that has it.
+CHANGES = [
+    ("0", "00000000000000", "00", "14407 to 14407: E1 1C 6E"),
+    ("+1", "10101010101010", "10", "14407 to 14408: 4B B6 38"),
+    ("&#8722;1", "01010101010101", "01", "14407 to 14406: B4 49 45"),
+    ("+2", "01100110011001", "10", "14407 to 14409: 87 7A A7"),
+    ("&#8722;2", "10011001100110", "01", "14407 to 14405: 78 85 DA"),
+    ("other", "", "11", "14405 to 14409: E1 27 6C"),
+]
+
+
+def control():
+    """The bits of JC1, JC2 and JC3, and under each bit what a change of the count does to it."""
+    p = Picture(WIDTH, 412, "The control bytes")
+    head = "The control bytes of a frame, first bit first: they announce the next frame's count"
+    p.text(20, 28, head, 15)
+    cell, top, left = 32, 66, 112
+    at = [left + cell * i + 6 * (i // 8) for i in range(24)]
+    for i, name in enumerate(("JC1", "JC2", "JC3: the remainder (CRC-8)")):
+        p.text(at[8 * i] + 4 * cell, top - 10, name, 13, "middle")
+    powers = ("x&#8311;", "x&#8310;", "x&#8309;", "x&#8308;", "x&#179;", "x&#178;", "x", "1")
+    for x, name in zip(at, (*(f"C{i}" for i in range(1, 15)), "II", "DI", *powers)):
+        fill = CONTROL if name in ("II", "DI") else OVER if x >= at[16] else CLIENT
+        p.box(x, top, cell, 36, fill, name, 12)
+
+    y = top + 62
+    p.text(20, y, "change")
+    p.text(at[0], y, "C bits turned over: 1; left as they are: 0")
+    p.text(at[16] + 8, y, "worked frames")
+    for change, pattern, indicators, worked in CHANGES:
+        y += 36
+        p.text(20, y + 1, change, 15)
+        for x, bit in zip(at, pattern):
+            p.box(x, y - 18, cell, 28, CLIENT if bit == "1" else STUFF, bit, 12)
+        if not pattern:
+            p.box(at[0], y - 18, at[13] + cell - at[0], 28, STUFF, "the new count itself", 12)
+        for x, bit in zip(at[14:], indicators):
+            p.box(x, y - 18, cell, 28, CONTROL if bit == "1" else STUFF, bit, 12)
+        p.text(at[16] + 8, y + 1, worked)
+
+    notes = (
+        "C1 is the first bit of the count. The bits are turned over in the count of the payload in"
+        " this frame, not in the bits last sent.",
+        "The remainder is that of the 16 bits of JC1 and JC2, times x&#8312;, by"
+        " x&#8312; + x&#179; + x&#178; + 1.",
+    )
+    for i, note in enumerate(notes):
+        p.text(20, y + 34 + 20 * i, note, 13, fill=DIM)
+    return p
+
+
+def standings():
+    """The sink as a state machine (01, "Sink", rules 1 to 3)."""
+    p = Picture(WIDTH, 580, "The standings")
+    head = "A sink between frames, and the standings that lead from state to state"
+    p.text(20, 28, f"{head} (rules 1 to 3 of 01)", 15)
+    wide, high, left, right, upper, lower = 226, 82, 168, 562, 112, 336
+    out = {"known": "the next frame hands out by it", "none": "the next frame hands out nothing"}
+    states = [
+        (left, upper, "none", "no word", STUFF),
+        (right, upper, "none", "word remembered", STUFF),
+        (left, lower, "known", "no word", CLIENT),
+        (right, lower, "known", "word remembered", CLIENT),
     ]
-    w = 132
-    for i, (standing, handed, fill, note) in enumerate(frames):
-        x = 24 + i * (w + 6)
-        p.text(x + w / 2, 66, f"frame {i + 1}", 13, "middle", DIM)
-        p.box(x, 76, w, 44, fill, standing, 15)
-        p.text(x + w / 2, 142, handed, 13, "middle")
-        p.text(x + w / 2, 162, note, 13, "middle", DIM)
-    x = 24 + 2 * (w + 6)
-    p.arrow((x, 186), (x + 2 * w + 4, 186))
-    p.text(x + w + 3, 206, "two clean frames", 13, "middle")
-    note = "A frame's bytes stand at the places of the count known before it: so a damaged word"
-    p.text(24, 236, f"{note} costs the frames after it, not its own.", 13, fill=DIM)
+    for x, y, count, word, fill in states:
+        p.box(x, y, wide, high, fill)
+        for dy, line, size in ((28, f"count {count}", 15), (48, word, 15), (70, out[count], 12)):
+            p.text(x + wide / 2, y + dy, line, size, "middle", DIM if size < 13 else INK)
+
+    def say(x, y, anchor, *lines):
+        for i, line in enumerate(lines):
+            p.text(x, y + 18 * i, line, 13, anchor)
+
+    third = "OUTSIDE (rule 3)"
+    a, b = upper + high / 2, lower + high / 2
+    p.arrow((left + 60, upper - 34), (left + 60, upper))
+    say(left + 60, upper - 42, "middle", "new sink")
+    p.arrow((20, a), (left, a))
+    say(20, a - 26, "start", "BADCHECK,", "OUTSIDE (rule 2)")
+    p.text(20, a + 18, "from every state", 12, fill=DIM)
+    p.arrow((20, b), (left, b))
+    say(20, b - 8, "start", "READ")
+    p.text(20, b + 18, "from every state", 12, fill=DIM)
+
+    p.arrow((left + wide, a), (right, a))
+    say((left + wide + right) / 2, a - 8, "middle", "WAITING")
+    p.arrow((left + wide, b), (right, b))
+    say((left + wide + right) / 2, b - 8, "middle", "TRACKED")
+    p.arrow((left + wide - 40, lower), (right + 10, upper + high))
+    say(left + wide + 36, (upper + high + lower) / 2 - 14, "end", "WAITING,", third)
+    p.arrow((right + 90, upper + high), (right + 90, lower))
+    say(right + 82, (upper + high + lower) / 2 + 20, "end", "PAIRED")
+    p.arrow((right + 136, lower), (right + 136, upper + high))
+    say(right + 144, (upper + high + lower) / 2 - 4, "start", "WAITING,", third)
+
+    def loop(y, dy):
+        p.arrow((right + 70, y), (right + 70, y + dy), (right + 156, y + dy), (right + 156, y))
+
+    loop(upper, -24)
+    say(right + 113, upper - 32, "middle", f"WAITING, {third}")
+    loop(lower + high, 24)
+    held = "TRACKED, or PAIRED where the", "count held is not continued"
+    say(right + 113, lower + high + 42, "middle", *held)
+
+    rules = (
+        "BADCHECK: the check fails (rule 1).",
+        "READ: II = DI, and the C bits are the count (rule 2).",
+        "TRACKED: the word continues the count held (rule 3).",
+        "PAIRED: it does not, but continues a possible count of the word remembered (rule 3).",
+        "WAITING: neither (rule 3). OUTSIDE: the count that rule 2 or 3 leads to is outside the"
+        " window.",
+    )
+    for i, rule in enumerate(rules):
+        p.text(20, lower + high + 74 + 19 * i, rule, 13, fill=DIM)
+    return p
+
+
+def span_lines(first, last):
+    """Of the table that ./span prints: frame, what the span did, standing, count, client bytes."""
+    for line in SPAN.read_text(encoding="utf-8").splitlines():
+        words = line.split(maxsplit=6)
+        if words and words[0].isdigit() and first <= int(words[0]) <= last:
+            yield int(words[0]), words[1], words[3], words[4], words[6]
+
+
+def keeper_count(t):
+    """The t-th count of a new keeper at 1000BASE-X's rate, from 1: the first t add up to this."""
+    p, q = 18671875, 1296
+    return t * p // q - (t - 1) * p // q
+
+
+def recovery():
+    """A sink over a hit, as ./span shows it: two clean frames later bytes are handed out again."""
+    p = Picture(WIDTH, 338, "Back after two clean frames")
+    head = "A hit at 1000BASE-X's rate, and the way back: two clean frames in succession"
+    p.text(20, 28, head, 15)
+    wide, step, left, top = 90, 94, 142, 62
+    fills = {"BADCHECK": HIT, "WAITING": STUFF, "PAIRED": CONTROL}
+    heights = 0, 22, 50, 70, 108, 150, 172
+    titles = "frame", "the span", "count of its payload", "its word announces", "the sink says"
+    for y, title in zip(heights, (*titles, "the sink then holds", "bytes handed out")):
+        p.text(20, top + y, title, 13, fill=DIM)
+    changes = {0: "", 1: " (+1)", -1: " (&#8722;1)"}
+    after_hit = left
+    for i, (frame, span, standing, count, handed) in enumerate(span_lines(5, 12)):
+        x = left + i * step
+        now, then = keeper_count(frame), keeper_count(frame + 1)
+        bytes_are = "nothing" if handed == "-" else "may be wrong"
+        bytes_are = "as mapped" if handed.startswith("as mapped") else bytes_are
+        held = "none" if count == "-" else count
+        said = frame, span, now, f"{then}{changes[then - now]}", standing, held, bytes_are
+        p.box(x, top + 84, wide, 40, fills.get(standing, CLIENT))
+        for y, text in zip(heights, said):
+            p.text(x + wide / 2, top + y, text, 13, "middle")
+        after_hit = x + step if span == "hit" else after_hit
+    p.arrow((after_hit, top + 198), (after_hit + step + wide, top + 198))
+    p.text(after_hit + (step + wide) / 2, top + 216, "two clean frames", 13, "middle")
+    notes = (
+        "A frame's bytes are handed out by the count held before it. So the first frame of the hit"
+        " still hands out bytes, and those",
+        "that were hit are wrong; a damaged word costs the bytes of the frames after its own.",
+    )
+    for i, note in enumerate(notes):
+        p.text(20, top + 246 + 18 * i, note, 13, fill=DIM)
     return p
 
 
@@ -292,7 +435,13 @@ def crates():
     return p
 
 
-PICTURES = {"frame.svg": layout, "recovery.svg": recovery, "crates.svg": crates}
+PICTURES = {
+    "frame.svg": layout,
+    "control.svg": control,
+    "standings.svg": standings,
+    "recovery.svg": recovery,
+    "crates.svg": crates,
+}
 
 
 def main():
