@@ -10,8 +10,8 @@ use std::time::{Duration, Instant};
 /// A program that takes longer hangs: it is stopped, and its test fails.
 const LIMIT: Duration = Duration::from_secs(30);
 
-/// Shared by the programs that run, and held alone where an output is closed: a program that is just
-/// starting has every pipe of this process open for a moment.
+/// Shared by the programs that run, and held alone where an output is closed: a program that is
+/// just starting has every pipe of this process open for a moment.
 static RUNNING: RwLock<()> = RwLock::new(());
 
 /// What a program wrote to standard output and to standard error.
