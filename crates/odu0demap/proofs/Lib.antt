@@ -1,2 +1,3 @@
 -- The program odu0demap. Assumes nothing.
 mod Laws
+mod Going

@@ -1,7 +1,7 @@
 -- What the program takes: the paper's sink with its tally, at OPU0's size. Assumes nothing.
 use mathlib.Core.Path.{_≡_}
 use mathlib.Core.Bool.{Bool, true, false, _&&_}
-use mathlib.Core.List.{List}
+use mathlib.Core.List.{List, foldl}
 use Prim.Native.Nat.{ℕ}
 use lib.Dec.{eqb}
 use lib.ListN.{length, take}
@@ -60,6 +60,15 @@ isSame d f = eqb (standingNumber (f .name)) (d .last) && sameCount (f .count) (d
 abbrev pub Goes : Demapper → List ℕ → Next → Type 0
 Goes d frame (From r) = r ≡ demapperAfter d frame
 Goes d frame End = Unit
+
+-- and where the frame is read: the demapper after some frame of OPU0's length
+abbrev pub GoesOn : Demapper → Next → Type 0
+GoesOn d (From r) = (frame : List ℕ) × (length frame ≡ 15240) × (r ≡ demapperAfter d frame)
+GoesOn d End = Unit
+
+-- all frames: the demapper at the end is a new one after some frames, each once and in order
+abbrev pub DemapsAll : Demapper → Type 0
+DemapsAll r = (frames : List (List ℕ)) × (r ≡ foldl demapperAfter newDemapper frames)
 
 -- A frame taken: its standing, the demapper after it, and the client bytes at the start of the
 -- output buffer, with their number.

@@ -14,7 +14,7 @@ use program_stream::Got;
 ghost use mathlib.Core.Path.{_≡_};
 ghost use lib.ListN.{length};
 ghost use Rattle.gmp_standing.specs.Standing.{standingMeaning};
-ghost use Rattle.odu0demap.specs.Demapping.{newDemapper, sameCount, isSame, Goes, Takes};
+ghost use Rattle.odu0demap.specs.Demapping.{newDemapper, sameCount, isSame, Goes, GoesOn, DemapsAll, Takes};
 
 // The sink's state, the card's tally, and the number of the last standing, 0 before the first
 // frame.
@@ -46,23 +46,26 @@ fn main() {
         );
         return;
     }
-    demap_all();
+    let end = demap_all();
+    show_tally(end.tally);
 }
 
-// Takes frame after frame. A proved loop has to end: this one does at the largest frame number,
-// which no run reaches.
-fn demap_all() {
+// Takes frame after frame from a new demapper on, and gives the demapper at their end. A proved
+// loop has to end: this one does at the largest frame number, which no run reaches.
+fn demap_all() -> Demapper
+    ensures { λ r. ⌜ DemapsAll r ⌝ }
+{
     let mut demapper = new_demapper();
     let mut frame_number: u64 = 0;
     while frame_number < u64::MAX {
         frame_number += 1;
         let next = take_next(frame_number, demapper);
         let Next::From(after) = next else {
-            show_tally(demapper.tally);
-            return;
+            return demapper;
         };
         demapper = after;
     }
+    demapper
 }
 
 // A new sink, with nothing tallied.
@@ -82,7 +85,9 @@ fn new_demapper() -> Demapper
 }
 
 // Reads the next frame and takes it, or says what is left where the input ends.
-fn take_next(frame_number: u64, demapper: Demapper) -> Next {
+fn take_next(frame_number: u64, demapper: Demapper) -> Next
+    ensures { λ r. ⌜ GoesOn demapper r ⌝ }
+{
     let mut frame = [0u8; 15240];
     let got = program_stream::gather(STDIN_FILENO, &mut frame);
     let Got::Whole = got else {
@@ -101,8 +106,8 @@ fn show_end(got: Got) {
     program_stream::say_left(b"odu0demap: ", left);
 }
 
-// Takes a frame, says how its standing changed and writes its client bytes. Where that fails no
-// more is handed out.
+// Takes a frame, writes its client bytes and says how its standing changed. Where the bytes cannot
+// be written nothing is said of the frame, and no more is handed out.
 fn take_frame(frame_number: u64, demapper: Demapper, frame: &[u8]) -> Next
     requires { ⌜ length (now frame) ≡ 15240 ⌝ }
     ensures { λ r. ⌜ Goes demapper (now (frame .entry)) r ⌝ }
@@ -111,9 +116,9 @@ fn take_frame(frame_number: u64, demapper: Demapper, frame: &[u8]) -> Next
     let taken = demap_frame(demapper, frame, &mut out);
     let standing = taken.standing;
     let after = taken.after;
-    show_change(frame_number, demapper, standing);
     let bytes = &out[..taken.handed as usize];
     if program_stream::write_out(bytes, b"odu0demap: standard output") {
+        show_change(frame_number, demapper, standing);
         return Next::From(after);
     }
     Next::End

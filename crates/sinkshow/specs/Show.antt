@@ -1,6 +1,6 @@
 -- What the parts of the program promise. Assumes nothing.
 use mathlib.Core.Path.{_≡_}
-use mathlib.Core.List.{List, [], _∷_, _++_}
+use mathlib.Core.List.{List, _++_, foldl}
 use Prim.Native.Nat.{ℕ, _+_}
 use lib.ListN.{length, take}
 use Rattle.io.specs.Counts.{Counts}
@@ -33,11 +33,6 @@ newRun = record { state = newSink; frames = 0 }
 abbrev pub runAfter : Run → List ℕ → Run
 runAfter n frame = record { state = stateAfter small (n .state) (controlOf (small .k) frame); frames = n .frames + 1 }
 
--- and after these frames, one after the other
-unfoldable pub runOver : Run → List (List ℕ) → Run
-runOver n [] = n
-runOver n (f ∷ fs) = runOver (runAfter n f) fs
-
 -- A frame taken: its line, from the start of the buffer, with "frame number from 1", and the run
 -- after it.
 pub record Shows (n : Run) (frame : List ℕ) (line : List ℕ) (r : Shown) (after : List ℕ) : Type 0 where
@@ -58,4 +53,4 @@ GoesOn n End = Unit
 
 -- all frames: the run at the end is a new one after some frames, each once and in order
 abbrev pub ShowsAll : Run → Type 0
-ShowsAll r = (frames : List (List ℕ)) × (r ≡ runOver newRun frames)
+ShowsAll r = (frames : List (List ℕ)) × (r ≡ foldl runAfter newRun frames)

@@ -1,12 +1,16 @@
--- `odu0demap::demap_all` meets its contract. The frame number grows to the largest of 64 bits and
--- no further. Assumes nothing.
-use Prim.Native.Nat.{_-_, _≤_}
+-- `odu0demap::demap_all` meets its contract. Each turn goes on from the demapper after one more
+-- frame; the frame number grows to the largest of 64 bits and no further. Assumes nothing.
+use mathlib.Core.Path.{subst}
+use Prim.Native.Nat.{_-_}
+use native.Mathlib.Omega.{arith}
 use borrow.Author.Needs.{needs}
+use Rattle.odu0demap.specs.Demapping.{GoesOn}
+use Rattle.odu0demap.proofs.Going.{Along, all-start, all-next}
 use Rattle.odu0demap.proofs.demap_all.Statement.{statement}
 use Rattle.odu0demap.proofs.demap_all.Tie as tie
 
 abbrev Inv-loop : tie.InvT-loop
-Inv-loop demapper₀ frameNumber₀ demapper frameNumber = frameNumber ≤ 18446744073709551615
+Inv-loop demapper₀ frameNumber₀ demapper frameNumber = Along demapper frameNumber
 
 abbrev μ-loop : tie.MeasureT-loop
 μ-loop demapper₀ frameNumber₀ demapper frameNumber = 18446744073709551615 - frameNumber
@@ -15,7 +19,7 @@ new-demapper-requires : tie.Need-new-demapper-requires Inv-loop μ-loop
 new-demapper-requires c κs = search needs
 
 loop-holds : tie.Need-loop-holds Inv-loop μ-loop
-loop-holds c = search needs
+loop-holds c = record { all = all-start _ (c .new-demapper .ensures); few = omega arith }
 
 add-frame-number : tie.Need-add-frame-number Inv-loop μ-loop
 add-frame-number c = search needs
@@ -29,20 +33,20 @@ enum-known-next c = search needs
 enum-told : tie.Need-enum-told Inv-loop μ-loop
 enum-told c = search needs
 
-show-tally-requires : tie.Need-show-tally-requires Inv-loop μ-loop
-show-tally-requires c κs = search needs
-
 returns : tie.Need-returns Inv-loop μ-loop
-returns c = search needs
+returns c = c .before .before .before .before .loop .inv .all
 
 loop-less : tie.Need-loop-less Inv-loop μ-loop
 loop-less c = search needs
 
 loop-again : tie.Need-loop-again Inv-loop μ-loop
-loop-again c = search needs
+loop-again c =
+    let l = c .before .before .before .before .before .loop in
+    let goes = subst (GoesOn (l .demapper)) (c .before .next .given .1) (c .before .before .before .take-next .ensures) in
+    record { all = all-next (l .demapper) _ (l .inv .all) goes; few = omega arith }
 
 returns-2 : tie.Need-returns-2 Inv-loop μ-loop
-returns-2 c = search needs
+returns-2 c = c .before .loop .inv .all
 
 pub demap-all-spec : {M : Type 1} → statement M
 demap-all-spec =
@@ -56,7 +60,6 @@ demap-all-spec =
     take-next-requires
     enum-known-next
     enum-told
-    show-tally-requires
     returns
     loop-less
     loop-again

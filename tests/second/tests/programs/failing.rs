@@ -139,6 +139,16 @@ fn a_full_device() {
     }
 }
 
+/// odu0demap says nothing of a frame whose bytes it cannot write, and its tally is without it.
+#[test]
+fn a_standing_whose_bytes_are_not_written() {
+    let [_, mut case, _] = cases();
+    case.input[15240 + 1] ^= 1;
+    let said = [case.lines, &case.failed("output", ENOSPC), case.totals[1]].concat();
+    let ended = run_onto(full_device(), case.program(), Input::StaysOpen(case.input));
+    assert_ended(ended, b"", &said);
+}
+
 #[test]
 fn a_full_device_for_the_line_of_a_rest() {
     let [.., sinkshow] = cases();
@@ -223,7 +233,7 @@ fn an_output_closed_after_the_first_write() {
 
 /// Where the signal is not ignored the program ends by it, and says no more.
 #[test]
-fn an_output_closed_ends_by_a_signal() {
+fn an_output_closed_ends_it_by_the_signal() {
     for case in cases() {
         for length in [0, case.first.1] {
             let fed = if length == 0 { [vec![], case.input.clone()] } else { case.halves() };
