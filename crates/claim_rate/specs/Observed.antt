@@ -11,7 +11,7 @@ use Rattle.gmp_settings.specs.declared.Settings.{Settings}
 use Rattle.gmp_rate.specs.declared.KeeperResult.{KeeperResult}
 use Rattle.gmp_rate.specs.Rate.{answerMeaning, resultMeaning, keeperCall, firstRemainder}
 use Rattle.gmp_rate.specs.Sum.{KeeperCall, given, countsFrom, sum}
-use Rattle.gmp_rate.proofs.next_count.Reads as next-count
+use Rattle.gmp_rate.proofs.next_count.Reads as next-reading
 
 -- a call with the remainder r: it returned the result, and kept its promise
 pub record KeeperSeen : Type 0 where
@@ -41,7 +41,7 @@ countsOf (x ∷ xs) = given (answerMeaning (x .result .answer)) ++ countsOf xs
 
 pub record ObservedCounts : Type 0 where
   -- what the toolchain reads off the contract of `next_count` is its promise
-  pub contract : (κs : Lfts 0) (s : Settings) (p q r : ℕ) (k : KeeperResult) → next-count.Learnt κs (s, (p, (q, (r, tt)))) k (s, (p, (q, (r, tt))))
+  pub contract : (κs : Lfts 0) (s : Settings) (p q r : ℕ) (k : KeeperResult) → next-reading.Learnt κs (s, (p, (q, (r, tt)))) k (s, (p, (q, (r, tt))))
       → resultMeaning k ≡ keeperCall s p q r
   -- the counts are those of the definitions
   pub as-defined : (r : ℕ) (seen : List KeeperSeen) → Passed r seen → countsOf seen ≡ countsFrom r (callsOf seen)

@@ -16,14 +16,14 @@ use Rattle.card_tally.specs.declared.Tally.{Tally}
 use Rattle.gmp_source.specs.declared.SourceState.{SourceState}
 use Rattle.gmp_source.specs.declared.SourceResult.{SourceResult}
 use Rattle.gmp_source.specs.Source.{SourcePromise}
-use Rattle.gmp_source_call.proofs.source_call.Reads as source-call
+use Rattle.gmp_source_call.proofs.source_call.Reads as source-reading
 use Rattle.gmp_sink.specs.declared.SinkState.{SinkState}
 use Rattle.gmp_sink.specs.declared.SinkResult.{SinkResult}
 use Rattle.gmp_sink.specs.Sink.{answerMeaning}
 use Rattle.card_sink.specs.declared.Counted.{Counted}
 use Rattle.card_sink.specs.Card.{CallPromise}
-use Rattle.card_sink.proofs.count_call.Reads as count-call
-use Rattle.card_sink.proofs.lend_call.Reads as lend-call
+use Rattle.card_sink.proofs.count_call.Reads as count-reading
+use Rattle.card_sink.proofs.lend_call.Reads as lend-reading
 use Rattle.claim_recovery.specs.Runs.{SourceCall, SinkCall, SourceStep, SinkStep, refusalOf, sourceSteps, sinkSteps, sinkEnd, frameOf, answerOf, handedOf, outOf}
 use Rattle.claim_recovery.specs.Tallied.{tallyEnd}
 
@@ -83,16 +83,17 @@ abbrev pub sinkMade : List SinkSeen → List SinkStep
 sinkMade [] = []
 sinkMade (y ∷ ys) = y .step ∷ sinkMade ys
 
--- What the toolchain reads off the contracts of the calls is their promise.
+-- What the toolchain reads off the contracts of the calls (`Learnt`) is their promise: of what a
+-- call was given, returned and left in the buffers that it was lent.
 pub record ContractsPromise : Type 0 where
   pub source-call : (κs : Lfts 2) (s : Settings) (z : SourceState) (next : ℕ) (client buffer : RefT (List ℕ)) (r : SourceResult) (frame : List ℕ)
-      → source-call.Learnt κs (s, (z, (next, (client, (buffer, tt))))) r (s, (z, (next, (client, (at-last buffer frame, tt)))))
+      → source-reading.Learnt κs (s, (z, (next, (client, (buffer, tt))))) r (s, (z, (next, (client, (at-last buffer frame, tt)))))
       → SourcePromise s z next (client .now) (buffer .now) r frame
   pub count-call : (κs : Lfts 2) (s : Settings) (z : SinkState) (frame buffer : RefT (List ℕ)) (y : Tally) (r : Counted) (out : List ℕ)
-      → count-call.Learnt κs (s, (z, (frame, (buffer, (y, tt))))) r (s, (z, (frame, (at-last buffer out, (y, tt)))))
+      → count-reading.Learnt κs (s, (z, (frame, (buffer, (y, tt))))) r (s, (z, (frame, (at-last buffer out, (y, tt)))))
       → CallPromise s z (frame .now) (buffer .now) y (r .result) out (r .tally)
   pub lend-call : (κs : Lfts 2) (s : Settings) (z : SinkState) (frame buffer : RefT (List ℕ)) (y : Tally) (r : Counted) (out : List ℕ)
-      → lend-call.Learnt κs (s, (z, (frame, (buffer, (y, tt))))) r (s, (z, (frame, (at-last buffer out, (y, tt)))))
+      → lend-reading.Learnt κs (s, (z, (frame, (buffer, (y, tt))))) r (s, (z, (frame, (at-last buffer out, (y, tt)))))
       → CallPromise s z (frame .now) (buffer .now) y (r .result) out (r .tally)
 
 -- Calls that keep their promises go as the definitions go. The accepted calls of a run are its

@@ -10,7 +10,7 @@ pub fn demand_3()
     ensures { λ _. ⌜ Demand3 ⌝ }
 {}
 
-// The tally is the sum over the accepted sink calls.
+// The card's tally is the sum over the accepted calls of all its sinks.
 pub fn tally_sums()
     ensures { λ _. ⌜ TallySums ⌝ }
 {}
