@@ -3,10 +3,10 @@
 
     docs/pictures/draw.py [--check]
 
-frame.svg is the frame's layout, control.svg the bits of the control bytes, standings.svg the sink
-as a state machine, recovery.svg the two-frame recovery as tests/span.txt has it, and crates.svg the
-groups of crates as crates.txt lists them. With --check nothing is written; the exit status is 1
-where a stored picture is not the one drawn.
+frame.svg is the frame's layout, even.svg how evenly its client bytes lie, control.svg the bits of
+the control bytes, standings.svg the sink as a state machine, recovery.svg the two-frame recovery as
+tests/span.txt has it, and crates.svg the groups of crates as crates.txt lists them. With --check
+nothing is written; the exit status is 1 where a stored picture is not the one drawn.
 """
 import itertools
 import pathlib
@@ -19,6 +19,7 @@ WIDTH = 900
 
 INK, DIM, BAND = "#222", "#777", "#f4f4f4"
 CLIENT, STUFF, CONTROL, OVER, HIT = "#cfe3f7", "#ffffff", "#f7dfb2", "#e6e6e6", "#f3b0a8"
+BYTES = "#2f6fb0"
 
 # The groups of crates from the top down: title, colour, and the names or prefixes of its crates.
 GROUPS = [
@@ -55,12 +56,24 @@ class Picture:
             size = min(size, int(width / len(text) / 0.062) / 10)
             self.text(x, y, text, size, "middle", fill)
 
-    def arrow(self, *points, width=1):
+    def line(self, points, width=1, stroke=INK, end=""):
         places = " ".join(f"{x},{y}" for x, y in points)
         self.parts.append(
-            f'<polyline points="{places}" fill="none" stroke="{INK}" stroke-width="{width}" '
-            'marker-end="url(#head)"/>'
+            f'<polyline points="{places}" fill="none" stroke="{stroke}" stroke-width="{width}"'
+            f"{end}/>"
         )
+
+    def arrow(self, *points, width=1):
+        self.line(points, width, end=' marker-end="url(#head)"')
+
+    def strip(self, *points):
+        places = " ".join(f"{x},{y}" for x, y in points)
+        self.parts.append(
+            f'<polygon points="{places}" fill="{BAND}" stroke="{DIM}" stroke-dasharray="5 4"/>'
+        )
+
+    def dot(self, x, y, fill):
+        self.parts.append(f'<circle cx="{x}" cy="{y}" r="4" fill="{fill}"/>')
 
     def svg(self):
         w, h = self.width, self.height
@@ -98,6 +111,64 @@ def layout():
         p.text(left + 4 * cell + 16, top + 30 + 18 * i, line, 13)
     note = "Reserved bytes and stuffing are written as zero. PSI is the payload type in frames"
     p.text(20, 280, f"{note} numbered 0.", 13, fill=DIM)
+    return p
+
+
+def run_of(p, count, s, first, last, left, top):
+    """Client bytes so far in the run of payload bytes first to last, and the straight line."""
+    wide, high = 46, 46
+    length = last - first + 1
+    rise = length * count / s
+
+    def at(n, clients):
+        return left + wide * n, round(top + high * (4 - clients), 1)
+
+    def along(by):
+        return [at(0, by), at(length, rise + by)]
+
+    p.strip(*along(1), *reversed(along(-1)))
+    for clients in range(4):
+        x, y = at(0, clients)
+        p.text(x - 8, y + 4, clients, 11, "end", DIM)
+        p.line([at(0, clients), at(length, clients)], stroke=OVER)
+    p.line(along(0))
+    so_far, steps = 0, [at(0, 0)]
+    for n in range(length):
+        carries = (first + n) * count % s < count
+        so_far += carries
+        steps.append(at(n + 1, so_far))
+        x, y = at(n, -1.3)
+        p.box(x, y, wide, 26, CLIENT if carries else STUFF, str(first + n))
+    p.line(steps, 2, BYTES)
+    for x, y in steps:
+        p.dot(x, y, BYTES)
+    x, y = at(0, -2.25)
+    p.text(x, y, f"payload bytes {first} to {last}: L = {length},")
+    p.text(x, y + 18, f"{so_far} client bytes, L &#215; C / S = {rise:g}")
+
+
+def even():
+    """Client bytes so far against the straight line: from payload byte 1 on, and from byte 6."""
+    k, count = 2, 3
+    s = 4 * k
+    p = Picture(WIDTH, 422, "How evenly the client bytes lie")
+    p.text(20, 28, f"How evenly the client bytes lie (here K = {k}, S = {s}, count {count})", 15)
+    run_of(p, count, s, 1, 8, 50, 46)
+    run_of(p, count, s, 6, 8, 520, 46)
+    p.line([(710, 90), (740, 90)], 2, BYTES)
+    p.dot(725, 90, BYTES)
+    p.line([(710, 114), (740, 114)])
+    p.strip((710, 131), (740, 131), (740, 145), (710, 145))
+    for i, text in enumerate(("client bytes so far", "L &#215; C / S", "less than one from it")):
+        p.text(750, 94 + 24 * i, text)
+    notes = (
+        "With N client bytes in a run of L payload bytes of one frame, S &#215; N &lt; L &#215; C"
+        " + S and L &#215; C &lt; S &#215; N + S: the dots keep inside the band,",
+        "whichever payload byte the run begins with. From payload byte 1 on they are never above"
+        " the line.",
+    )
+    for i, note in enumerate(notes):
+        p.text(20, 386 + 18 * i, note, 13, fill=DIM)
     return p
 
 
@@ -437,6 +508,7 @@ def crates():
 
 PICTURES = {
     "frame.svg": layout,
+    "even.svg": even,
     "control.svg": control,
     "standings.svg": standings,
     "recovery.svg": recovery,

@@ -2,4 +2,5 @@
 pub mod Copies
 pub mod Steps
 mod Runs
+mod Even
 pub mod Laws

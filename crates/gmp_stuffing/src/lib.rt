@@ -4,6 +4,7 @@ ghost use mathlib.Core.Path.{_≡_};
 ghost use Prim.Native.Nat.{_+_, _*_, _≤_, _<_};
 ghost use lib.ListN.{length};
 ghost use Rattle.gmp_stuffing.specs.Places.{PlacesCounted};
+ghost use Rattle.gmp_stuffing.specs.Even.{BytesLieEvenly};
 ghost use Rattle.gmp_stuffing.specs.Row.{rowFits, rowBytes, rowClient, rowPlaced, rowTaken};
 ghost use Rattle.gmp_stuffing.specs.Copied.{copied};
 
@@ -46,6 +47,12 @@ pub fn take_row(part: &[u8], count: usize, r: usize, out: &mut [u8])
 // There are exactly C places, and among the first n exactly the whole part of n * C / S.
 pub fn places_counted()
     ensures { λ _. ⌜ PlacesCounted ⌝ }
+{}
+
+// In any run of L successive payload bytes of one frame the client bytes differ from L * C / S by
+// less than one.
+pub fn bytes_lie_evenly()
+    ensures { λ _. ⌜ BytesLieEvenly ⌝ }
 {}
 
 // Whether r is one of four rows of k payload bytes, with k below 2^32, and c client bytes fit the

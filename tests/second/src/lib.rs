@@ -9,6 +9,7 @@
 mod random;
 
 pub use random::Random;
+use std::ops::RangeInclusive;
 
 /// The settings: K payload columns in a row, and the window of counts.
 #[derive(Clone, Copy, Debug, PartialEq, Eq)]
@@ -52,6 +53,11 @@ impl Settings {
 /// Whether payload byte n, from 1, carries a client byte.
 pub fn carries(n: u64, count: u64, s: u64) -> bool {
     n * count % s < count
+}
+
+/// How many payload bytes of a run carry client bytes; of each the rule above is asked.
+pub fn clients_in(run: RangeInclusive<u64>, count: u64, s: u64) -> u64 {
+    run.filter(|n| carries(*n, count, s)).count() as u64
 }
 
 /// Where the payload bytes 1 to S stand in a frame, from 0.

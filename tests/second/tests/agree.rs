@@ -6,6 +6,8 @@
 mod both;
 #[path = "agree/calls.rs"]
 mod calls;
+#[path = "agree/even.rs"]
+mod even;
 #[path = "agree/fields.rs"]
 mod fields;
 #[path = "agree/given.rs"]
