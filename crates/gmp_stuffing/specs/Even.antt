@@ -23,10 +23,10 @@ pub record Even (C S a L : ℕ) : Type 0 where
   -- they are those among the first a + L without those among the first a
   pub difference : placesIn C S a L + places C S a ≡ places C S (a + L)
 
--- "It must hold for every grid, count and run, the empty run included": a run of one frame ends
--- with payload byte S at the latest, and begins anywhere. No smaller figure holds, on any grid: with
--- one stuffing byte the run of byte 1 alone has S − 1 too little, with one client byte the run of
--- byte S alone has S − 1 too much.
+-- "It must hold for every grid, count and run, the empty run included": a run of one frame begins
+-- anywhere and ends with payload byte S at the latest. No smaller figure holds, on any grid: with
+-- one stuffing byte the run of byte 1 alone is S − 1 below L × C, with one client byte the run of
+-- byte S alone is S − 1 above it.
 pub record BytesLieEvenly : Type 0 where
   pub every-run : (K C a L : ℕ) → 0 < K → C ≤ payloadBytes K → a + L ≤ payloadBytes K → Even C (payloadBytes K) a L
   pub sharp-below : (K C : ℕ) → C + 1 ≡ payloadBytes K → payloadBytes K * placesIn C (payloadBytes K) 0 1 + C ≡ 1 * C
