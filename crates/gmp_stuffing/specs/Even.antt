@@ -12,8 +12,9 @@ unfoldable pub placesIn : ℕ → ℕ → ℕ → ℕ → ℕ
 placesIn C S a zero = 0
 placesIn C S a (suc L) = placesIn C S a L + cond (carries C S (a + suc L)) 1 0
 
--- "the client bytes differ from L × C / S by less than one, in whole numbers: the difference of S ×
--- their number and L × C is less than S on either side"
+-- Of the run of payload bytes a + 1 to a + L: "the client bytes differ from L × C / S by less than
+-- one, in whole numbers: the difference of S × their number and L × C is less than S on either
+-- side"
 pub record Even (C S a L : ℕ) : Type 0 where
   pub above : S * placesIn C S a L < L * C + S
   pub below : L * C < S * placesIn C S a L + S

@@ -49,8 +49,9 @@ pub fn places_counted()
     ensures { λ _. ⌜ PlacesCounted ⌝ }
 {}
 
-// In any run of L successive payload bytes of one frame the client bytes differ from L * C / S by
-// less than one.
+// On every grid from K = 1 on, with a count C of at most S, the client bytes in any run of L
+// successive payload bytes of one frame differ from L * C / S by less than one, and no smaller
+// figure holds.
 pub fn bytes_lie_evenly()
     ensures { λ _. ⌜ BytesLieEvenly ⌝ }
 {}
