@@ -12,7 +12,7 @@
  * The rate of 1000BASE-X is P / Q client bytes a frame. The sink reads from frame FROM, and frame
  * HARMED is harmed.
  */
-enum { P = 18671875, Q = 1296, FRAMES = 12, FROM = 3, HARMED = 9 };
+enum { P = 18671875, Q = 1296, FRAMES = 12, FROM = 4, HARMED = 8 };
 
 /* The largest buffers that OPU0 needs. */
 static uint8_t client[14410], frame[15240], out[14410];

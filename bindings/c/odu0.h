@@ -144,7 +144,13 @@ odu0_source_reply odu0_source_call(odu0_settings settings,
                                    uint8_t *frame,
                                    size_t frame_len);
 
-/* The remainder that a new rate keeper with the divisor q begins with. */
+/*
+ * The remainder that a new rate keeper with the divisor q begins with: half of q, rounded down. So
+ * the first t counts of a new keeper add up to the whole number nearest to t * p / q, exact halves
+ * going up, where each call gets the remainder that the call before it returned and all accepted
+ * calls have one p and this q; refused calls among them do not matter. A keeper that is begun anew
+ * begins a new sum.
+ */
 uint32_t odu0_keeper_new(uint32_t q);
 
 /* The next count at p / q client bytes a frame. Refusals 1, 2, 3, 4, 5. */

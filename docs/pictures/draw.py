@@ -299,9 +299,12 @@ def span_lines(first, last):
 
 
 def keeper_count(t):
-    """The t-th count of a new keeper at 1000BASE-X's rate, from 1: the first t add up to this."""
+    """The t-th count of a new keeper at 1000BASE-X's rate, from 1.
+
+    The first t add up to the number nearest to t * p / q, exact halves going up.
+    """
     p, q = 18671875, 1296
-    return t * p // q - (t - 1) * p // q
+    return (2 * t * p + q) // (2 * q) - (2 * (t - 1) * p + q) // (2 * q)
 
 
 def recovery():
@@ -317,7 +320,7 @@ def recovery():
         p.text(20, top + y, title, 13, fill=DIM)
     changes = {0: "", 1: " (+1)", -1: " (&#8722;1)"}
     after_hit = left
-    for i, (frame, span, standing, count, handed) in enumerate(span_lines(5, 12)):
+    for i, (frame, span, standing, count, handed) in enumerate(span_lines(4, 11)):
         x = left + i * step
         now, then = keeper_count(frame), keeper_count(frame + 1)
         bytes_are = "nothing" if handed == "-" else "may be wrong"

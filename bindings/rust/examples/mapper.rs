@@ -10,8 +10,8 @@ const Q: u32 = 1296;
 
 /// The sink reads from frame FROM, and frame HARMED is harmed.
 const FRAMES: u32 = 12;
-const FROM: u32 = 3;
-const HARMED: u32 = 9;
+const FROM: u32 = 4;
+const HARMED: u32 = 8;
 
 fn main() -> Result<(), Refusal> {
     let opu0 = Settings::OPU0;

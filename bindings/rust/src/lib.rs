@@ -210,7 +210,10 @@ pub struct Keeper {
 }
 
 impl Keeper {
-    /// A new keeper with the divisor q.
+    /// A new keeper with the divisor q: it begins with half of q, rounded down. So its first t
+    /// counts add up to the whole number nearest to t × p / q, exact halves going up, where all
+    /// accepted calls have one p and this q and nothing else writes the remainder; refused calls
+    /// among them do not matter. A keeper that is made anew begins a new sum.
     pub fn new(q: u32) -> Keeper {
         // SAFETY: the function takes and returns a plain value, and every one is allowed.
         let remainder = unsafe { ffi::odu0_keeper_new(q) };

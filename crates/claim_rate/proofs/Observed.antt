@@ -3,11 +3,13 @@ use mathlib.Core.Path.{_≡_, refl, sym, ap, _∙_, subst}
 use mathlib.Core.Bool.{true}
 use mathlib.Core.List.{List, [], _∷_, _++_}
 use Prim.Native.Nat.{ℕ, _+_, _*_, _/_, _<_}
+use native.Mathlib.Omega.{arith}
 use lib.ListN.{length}
 use Rattle.refusals.specs.Table.{accepts}
 use Rattle.gmp_rate.specs.Rate.{Kept, answerMeaning, resultMeaning, keeperCall, firstRemainder}
-use Rattle.gmp_rate.specs.Sum.{KeeperCall, answered, given, countsFrom, SharedRate, sum}
-use Rattle.gmp_rate.proofs.Sum.{counts-add-up}
+use Rattle.gmp_rate.specs.Sum.{KeeperCall, answered, given, countsFrom, SharedRate, sum, roundedTotal}
+use Rattle.gmp_rate.specs.Nearest.{Nearest}
+use Rattle.gmp_rate.proofs.Sum.{counts-add-up, totals-are-nearest}
 use Rattle.claim_rate.specs.Observed.{KeeperSeen, Passed, SharedSeen, callsOf, countsOf, ObservedCounts}
 
 -- what an observed call answered is what the definition answers from the remainder of the chain
@@ -34,11 +36,14 @@ pub observed-counts : ObservedCounts
 observed-counts =
     record {
       contract = λ κs s p q r k e. e;
+      begin = λ κs q r e. let h : r ≡ firstRemainder q = e in omega arith;
       as-defined = counts-are;
       from-any = λ p q r h seen passed s.
-          subst (λ (l : List ℕ). sum l ≡ (r + length l * p) / q) (sym (counts-are r seen passed))
-          (counts-add-up .from-any p q r h (callsOf seen) (shared-is p q r seen passed s));
+          rw (counts-are r seen passed) (omega (arith, counts-add-up .from-any p q r h (callsOf seen) (shared-is p q r seen passed s)));
       new = λ p q seen h passed s.
-          subst (λ (l : List ℕ). sum l ≡ length l * p / q) (sym (counts-are (firstRemainder q) seen passed))
-          (counts-add-up .new p q (callsOf seen) h (shared-is p q (firstRemainder q) seen passed s));
+          rw (counts-are (firstRemainder q) seen passed)
+          (omega (arith, counts-add-up .new p q (callsOf seen) h (shared-is p q (firstRemainder q) seen passed s)));
+      nearest = λ p q seen h passed s.
+          let n = totals-are-nearest .total p q (callsOf seen) h (shared-is p q (firstRemainder q) seen passed s) in
+          rw (counts-are (firstRemainder q) seen passed) (record { above = omega arith; below = omega arith });
     }

@@ -9,12 +9,12 @@ use Rattle.gmp_control.specs.Word.{equalIndicators}
 use Rattle.gmp_control.specs.Pattern.{tableOf}
 use Rattle.gmp_control.specs.Announce.{announced}
 use Rattle.gmp_control.specs.Follow.{usable, tracked, candidate, paired, reading, foundBy}
-use Rattle.gmp_rate.specs.Rate.{keeperRefusal, keeperCall, firstRemainder}
+use Rattle.gmp_rate.specs.Rate.{keeperRefusal, keeperCall}
 use Rattle.gmp_rate.specs.Sum.{countsFrom}
 use Rattle.gmp_source.specs.Source.{controlBytes}
 use Rattle.gmp_sink.specs.Sink.{standingAfter, stateAfter}
 use Rattle.claim_worked.specs.Starred.{AllHold, starred, reads, carrying}
 
 pub starred-hold : AllHold starred
-unfolding controlBytes announced tableOf remainder divide reduce bits passes reads carrying standingAfter stateAfter foundBy reading inWindow usable tracked candidate paired equalIndicators outside countsFrom firstRemainder keeperCall keeperRefusal
+unfolding controlBytes announced tableOf remainder divide reduce bits passes reads carrying standingAfter stateAfter foundBy reading inWindow usable tracked candidate paired equalIndicators outside countsFrom keeperCall keeperRefusal
 starred-hold = (refl, (refl, (refl, (refl, (refl, (refl, (refl, (refl, (refl, (refl, (refl, (refl, (refl, (refl, (refl, tt)))))))))))))))

@@ -1,4 +1,5 @@
--- The starred cases of 01, "Worked frames", as one table. Assumes nothing.
+-- The starred cases of 01, "Worked frames", as one table; the last is that of 02, P7, in the place
+-- of 01's. Assumes nothing.
 use mathlib.Core.Path.{_≡_}
 use mathlib.Core.Bool.{Bool, cond}
 use mathlib.Core.List.{List, [], _∷_, _++_}
@@ -12,7 +13,8 @@ use Rattle.gmp_control.specs.Worked.{wide, narrow}
 use Rattle.gmp_stuffing.specs.Places.{carries}
 use Rattle.gmp_frame.specs.declared.Control.{Control}
 use Rattle.gmp_rate.specs.Rate.{firstRemainder}
-use Rattle.gmp_rate.specs.Sum.{KeeperCall, countsFrom}
+use Rattle.gmp_rate.specs.Sum.{countsFrom}
+use Rattle.gmp_rate.specs.Worked.{gigabit}
 use Rattle.gmp_source.specs.Source.{controlBytes}
 use Rattle.gmp_sink.specs.declared.SinkState.{SinkState}
 use Rattle.gmp_sink.specs.Sink.{newSink, standingAfter, stateAfter}
@@ -51,10 +53,6 @@ carrying C S (suc n) = carrying C S n ++ cond (carries C S (suc n)) (suc n ∷ [
 abbrev pub misled : SinkState
 misled = record { count = Known 2932; word = Nothing }
 
--- 1000BASE-X
-abbrev pub gigabit : KeeperCall
-gigabit = record { settings = opu0; p = 18671875; q = 1296 }
-
 abbrev pub starred : List Case
 starred =
     -- "Old 14407: next 14407 E1 1C 6E; 14408 4B B6 38; 14409 87 7A A7; 14406 B4 49 45; 14405 78 85
@@ -79,6 +77,7 @@ starred =
     ∷ numbers (carrying 3 8 8) (3 ∷ 6 ∷ 8 ∷ [])
     ∷ numbers (carrying 0 8 8) []
     ∷ numbers (carrying 8 8 8) (1 ∷ 2 ∷ 3 ∷ 4 ∷ 5 ∷ 6 ∷ 7 ∷ 8 ∷ [])
-    -- "p = 18671875, q = 1296 (1000BASE-X): 14407, 14407, 14407, 14408."
-    ∷ numbers (countsFrom (firstRemainder 1296) (gigabit ∷ gigabit ∷ gigabit ∷ gigabit ∷ [])) (14407 ∷ 14407 ∷ 14407 ∷ 14408 ∷ [])
+    -- 02, P7: "For 18671875 over 1296 the first counts become 14407, 14408, 14407, 14407, 14408."
+    -- It replaces 01's "p = 18671875, q = 1296 (1000BASE-X): 14407, 14407, 14407, 14408."
+    ∷ numbers (countsFrom (firstRemainder 1296) (gigabit ∷ gigabit ∷ gigabit ∷ gigabit ∷ gigabit ∷ [])) (14407 ∷ 14408 ∷ 14407 ∷ 14407 ∷ 14408 ∷ [])
     ∷ []

@@ -1,2 +1,3 @@
 pub mod Laws
+pub mod Nearest
 pub mod Sum

@@ -1,5 +1,6 @@
 -- The sum of a keeper's counts. Over any list of calls q times the sum and the last remainder are
--- what came in: the first remainder, and p for each count given. Assumes nothing.
+-- what came in: the first remainder, and p for each count given. From half of q on that is rounding
+-- to the nearest. Assumes nothing.
 use mathlib.Core.Path.{_≡_, refl, sym, ap, _∙_, subst}
 use mathlib.Core.Bool.{Bool, true, false, true≢false}
 use mathlib.Core.List.{List, [], _∷_, _++_}
@@ -14,7 +15,9 @@ use Rattle.refusals.specs.Table.{accepted, accepts}
 use Rattle.gmp_settings.specs.Settings.{outside}
 use Rattle.gmp_rate.specs.Rate.{Kept, keeperRefusal, keeperCall, firstRemainder}
 use Rattle.gmp_rate.specs.Sum.{KeeperCall, answered, given, countsFrom, SharedRate, sum, CountsAddUp}
+use Rattle.gmp_rate.specs.Nearest.{TotalsAreNearest}
 use Rattle.gmp_rate.proofs.Laws.{accepted-knows, count-inside, call-accepted, call-refused}
+use Rattle.gmp_rate.proofs.Nearest.{start-nearest, start, only, no-nearer, halves-up}
 
 -- the last remainder, with what is known of it
 record Balance (p q r : ℕ) (counts : List ℕ) : Type 0 where
@@ -63,12 +66,10 @@ from-any p q r h calls shared =
     let b = balance p q r h calls shared in
     sym (digits-div (sum (countsFrom r calls)) (b .below)) ∙ ap (λ (x : ℕ). x / q) (b .same)
 
-new : (p q : ℕ) (calls : List KeeperCall) → 0 < q → SharedRate p q (firstRemainder q) calls
-    → sum (countsFrom (firstRemainder q) calls) ≡ length (countsFrom (firstRemainder q) calls) * p / q
-unfolding firstRemainder
-new p q calls h shared =
-    let z : 0 + length (countsFrom 0 calls) * p ≡ length (countsFrom 0 calls) * p = omega arith in
-    from-any p q 0 h calls shared ∙ ap (λ (x : ℕ). x / q) z
+-- those of a new keeper, which begins below q
+from-first : (p q : ℕ) (calls : List KeeperCall) → 0 < q → SharedRate p q (firstRemainder q) calls
+    → sum (countsFrom (firstRemainder q) calls) ≡ (firstRemainder q + length (countsFrom (firstRemainder q) calls) * p) / q
+from-first p q calls pos shared = from-any p q (firstRemainder q) (omega arith) calls shared
 
 in-window : (c : KeeperCall) (r n : ℕ) → answered c r .answer ≡ accepted n → outside (c .settings) n ≡ false
 in-window c r n e = by (eqb (keeperRefusal (c .settings) (c .p) (c .q) r) 0) refl
@@ -88,4 +89,21 @@ in-window c r n e = by (eqb (keeperRefusal (c .settings) (c .p) (c .q) r) 0) ref
         absurd (true≢false (sym k))
 
 pub counts-add-up : CountsAddUp
-counts-add-up = record { from-any = from-any; new = new; in-window = in-window }
+counts-add-up =
+    record {
+      from-any = λ p q r h calls shared. omega (arith, from-any p q r h calls shared);
+      start = start;
+      new = λ p q calls pos shared.
+          omega (arith, from-first p q calls pos shared, start (length (countsFrom (firstRemainder q) calls)) p q pos);
+      in-window = in-window;
+    }
+
+pub totals-are-nearest : TotalsAreNearest
+totals-are-nearest =
+    record {
+      total = λ p q calls pos shared.
+          rw (from-first p q calls pos shared) (start-nearest (length (countsFrom (firstRemainder q) calls)) p q pos);
+      only = only;
+      no-nearer = no-nearer;
+      halves-up = λ t p q T U n same. omega (arith, halves-up t p q T U n same);
+    }

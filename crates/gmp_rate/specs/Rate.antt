@@ -54,6 +54,7 @@ keptBy n p q r = record { answer = answerBy n ((r + p) / q); remainder = cond (e
 unfoldable pub keeperCall : Settings → ℕ → ℕ → ℕ → Kept
 keeperCall s p q r = keptBy (keeperRefusal s p q r) p q r
 
--- the remainder of a new keeper: "zero at the start"
-unfoldable pub firstRemainder : ℕ → ℕ
-firstRemainder q = 0
+-- the remainder of a new keeper: "half q, rounded down" (02, P7, which replaces 01's "zero at the
+-- start"); 0 where q is 0, a divisor that every call refuses
+abbrev pub firstRemainder : ℕ → ℕ
+firstRemainder q = q / 2

@@ -39,12 +39,19 @@ unfoldable pub sum : List ℕ → ℕ
 sum [] = 0
 sum (n ∷ l) = n + sum l
 
+-- "that rounded total" (02, P7): the whole part of t × p / q plus a half, in whole numbers
+abbrev pub roundedTotal : ℕ → ℕ → ℕ → ℕ
+roundedTotal t p q = (2 * t * p + q) / (2 * q)
+
 pub record CountsAddUp : Type 0 where
   -- from any remainder r below q, t counts add up to the whole part of (r + t × p) / q
   pub from-any : (p q r : ℕ) → r < q → (calls : List KeeperCall) → SharedRate p q r calls
       → sum (countsFrom r calls) ≡ (r + length (countsFrom r calls) * p) / q
-  -- "The first t counts of a new rate keeper add up to the whole part of t × p / q."
+  -- from the first remainder that is the rounded total, for odd and even q alike
+  pub start : (t p q : ℕ) → 0 < q → (firstRemainder q + t * p) / q ≡ roundedTotal t p q
+  -- the first t counts of a new keeper: "The promised sum over t frames is that rounded total" (02,
+  -- P7, which replaces the base's promise, the whole part of t × p / q)
   pub new : (p q : ℕ) (calls : List KeeperCall) → 0 < q → SharedRate p q (firstRemainder q) calls
-      → sum (countsFrom (firstRemainder q) calls) ≡ length (countsFrom (firstRemainder q) calls) * p / q
+      → sum (countsFrom (firstRemainder q) calls) ≡ roundedTotal (length (countsFrom (firstRemainder q) calls)) p q
   -- every count that it gives lies in the window
   pub in-window : (c : KeeperCall) (r n : ℕ) → answered c r .answer ≡ accepted n → outside (c .settings) n ≡ false

@@ -1,15 +1,42 @@
--- The worked counts of 01. Assumes nothing.
+-- Worked counts of new keepers (02, P7). Assumes nothing.
 use mathlib.Core.Path.{_≡_, refl}
 use mathlib.Core.List.{[], _∷_}
-use Rattle.gmp_settings.specs.Settings.{opu0}
+use Prim.Native.Nat.{ℕ}
+use Rattle.gmp_settings.specs.Settings.{newSettings, opu0}
 use Rattle.gmp_rate.specs.Rate.{keeperRefusal, keeperCall, firstRemainder}
-use Rattle.gmp_rate.specs.Sum.{KeeperCall, countsFrom}
+use Rattle.gmp_rate.specs.Sum.{KeeperCall, countsFrom, sum}
 
 -- 1000BASE-X on OPU0
-abbrev gigabit : KeeperCall
+abbrev pub gigabit : KeeperCall
 gigabit = record { settings = opu0; p = 18671875; q = 1296 }
 
--- "p = 18671875, q = 1296 (1000BASE-X): 14407, 14407, 14407, 14408."
-pub counts : countsFrom (firstRemainder 1296) (gigabit ∷ gigabit ∷ gigabit ∷ gigabit ∷ []) ≡ 14407 ∷ 14407 ∷ 14407 ∷ 14408 ∷ []
-unfolding countsFrom firstRemainder keeperCall keeperRefusal
+-- "For 18671875 over 1296 the first counts become 14407, 14408, 14407, 14407, 14408." (01's were
+-- 14407, 14407, 14407, 14408.)
+pub counts : countsFrom (firstRemainder 1296) (gigabit ∷ gigabit ∷ gigabit ∷ gigabit ∷ gigabit ∷ [])
+    ≡ 14407 ∷ 14408 ∷ 14407 ∷ 14407 ∷ 14408 ∷ []
+unfolding countsFrom keeperCall keeperRefusal
 counts = refl
+
+-- one client byte in q frames, on the grid K = 1 with the window 0 to 1
+abbrev oneIn : ℕ → KeeperCall
+oneIn q = record { settings = newSettings 1 0 1; p = 1; q = q }
+
+-- exact halves go up: 1/2, 2/2, 3/2 and 4/2 are rounded to 1, 1, 2 and 2
+pub halves : countsFrom (firstRemainder 2) (oneIn 2 ∷ oneIn 2 ∷ oneIn 2 ∷ oneIn 2 ∷ []) ≡ 1 ∷ 0 ∷ 1 ∷ 0 ∷ []
+unfolding countsFrom keeperCall keeperRefusal
+halves = refl
+
+-- an odd divisor: 1/3, 2/3 and 3/3 are rounded to 0, 1 and 1
+pub thirds : countsFrom (firstRemainder 3) (oneIn 3 ∷ oneIn 3 ∷ oneIn 3 ∷ []) ≡ 0 ∷ 1 ∷ 0 ∷ []
+unfolding countsFrom keeperCall keeperRefusal
+thirds = refl
+
+-- "a keeper restarted in between begins a new sum": four counts of one keeper add up to 57629; two
+-- counts and, after a restart, two more to 28815 and 28815, one more in all
+pub unbroken : sum (countsFrom (firstRemainder 1296) (gigabit ∷ gigabit ∷ gigabit ∷ gigabit ∷ [])) ≡ 57629
+unfolding sum countsFrom keeperCall keeperRefusal
+unbroken = refl
+
+pub restarted : sum (countsFrom (firstRemainder 1296) (gigabit ∷ gigabit ∷ [])) ≡ 28815
+unfolding sum countsFrom keeperCall keeperRefusal
+restarted = refl

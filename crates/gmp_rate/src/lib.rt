@@ -8,6 +8,7 @@ ghost use Prim.Native.Nat.{_/_};
 ghost use Rattle.gmp_refusal.specs.Refusal.{verdictNumber};
 ghost use Rattle.gmp_rate.specs.Rate.{badDivisor, badRate, keeperRefusal, resultMeaning, keeperCall, firstRemainder};
 ghost use Rattle.gmp_rate.specs.Sum.{CountsAddUp};
+ghost use Rattle.gmp_rate.specs.Nearest.{TotalsAreNearest};
 
 // The next count, or why the call is turned back.
 pub enum KeeperAnswer {
@@ -21,11 +22,12 @@ pub struct KeeperResult {
     pub remainder: u32,
 }
 
-// The remainder of a new keeper with the divisor q.
+// The remainder of a new keeper with the divisor q: half of q, rounded down, so that its total is
+// rounded to the nearest.
 pub fn first_remainder(q: u32) -> u32
     ensures { λ r. ⌜ r ≡ firstRemainder q ⌝ }
 {
-    0
+    q / 2
 }
 
 // The next count at the rate p / q from the remainder r. A refused call returns the remainder that
@@ -47,9 +49,18 @@ pub fn next_count(settings: Settings, p: u32, q: u32, r: u32) -> KeeperResult
     }
 }
 
-// The counts of a keeper add up, and each lies in the window.
+// The counts of a keeper add up, from any remainder below q and of a new keeper to the rounded
+// total, and each lies in the window. So it is over every list of calls, refused ones among them,
+// in which each gets the remainder that the call before it returned and the accepted ones share p
+// and q.
 pub fn counts_add_up()
     ensures { λ _. ⌜ CountsAddUp ⌝ }
+{}
+
+// The first t counts of a new keeper add up, over such a list and for every q from 1 on, to the
+// whole number nearest to t times p / q, exact halves going up, and no other number is nearest.
+pub fn totals_are_nearest()
+    ensures { λ _. ⌜ TotalsAreNearest ⌝ }
 {}
 
 // Numbers 1 to 5, in ascending order.

@@ -229,8 +229,9 @@ pub struct Keeper {
 }
 
 impl Keeper {
-    pub fn new() -> Keeper {
-        Keeper { remainder: 0 }
+    /// Starts with half q, rounded down: what the half rounded up leaves of q (02, P7).
+    pub fn new(q: u32) -> Keeper {
+        Keeper { remainder: q - q.div_ceil(2) }
     }
 
     /// Every refusal of a call, by its number. Nothing is divided by zero: refusal 3 is below
@@ -254,10 +255,14 @@ impl Keeper {
     }
 }
 
-impl Default for Keeper {
-    fn default() -> Keeper {
-        Keeper::new()
-    }
+/// The whole number nearest to n / q, exact halves going up (02, P7): of the numbers around n / q
+/// that at the least distance, and of two at one distance the greater.
+pub fn nearest(n: u64, q: u64) -> u64 {
+    let around = (n / q).saturating_sub(1)..=n / q + 2;
+    around
+        .rev()
+        .min_by_key(|total| (total * q).abs_diff(n))
+        .expect("four numbers at most, not none")
 }
 
 /// What a sink says of a frame.
@@ -461,9 +466,16 @@ mod tests {
 
     #[test]
     fn worked_rate() {
-        let mut keeper = Keeper::new();
-        let counts = [(); 4].map(|()| keeper.call(Settings::OPU0, 18671875, 1296).unwrap());
-        assert_eq!(counts, [14407, 14407, 14407, 14408]);
+        let mut keeper = Keeper::new(1296);
+        let counts = [(); 5].map(|()| keeper.call(Settings::OPU0, 18671875, 1296).unwrap());
+        assert_eq!(counts, [14407, 14408, 14407, 14407, 14408]);
+    }
+
+    #[test]
+    fn worked_roundings() {
+        assert_eq!([0, 1, 2, 3, 4, 5].map(|n| nearest(n, 2)), [0, 1, 1, 2, 2, 3]);
+        assert_eq!([0, 1, 2, 3, 4, 5].map(|n| nearest(n, 3)), [0, 0, 1, 1, 1, 2]);
+        assert_eq!([0, 1, 2, 3].map(|n| nearest(n, 1)), [0, 1, 2, 3]);
     }
 
     /// The paper says "the one which this word continues": no word continues both possible counts

@@ -12,6 +12,8 @@ mod even;
 mod fields;
 #[path = "agree/given.rs"]
 mod given;
+#[path = "agree/nearest.rs"]
+mod nearest;
 #[path = "agree/refusals.rs"]
 mod refusals;
 #[path = "agree/runs.rs"]

@@ -102,9 +102,33 @@ fn places_of_eight() {
 #[test]
 fn rate_of_1000base_x() {
     let mut keeper = Keeper::new(1296);
-    assert_eq!(keeper.remainder, 0);
-    let counts = [(); 4].map(|()| keeper.call(OPU0, 18671875, 1296));
-    assert_eq!(counts, [Ok(14407), Ok(14407), Ok(14407), Ok(14408)]);
+    assert_eq!(keeper.remainder, 648);
+    let counts = [(); 5].map(|()| keeper.call(OPU0, 18671875, 1296));
+    assert_eq!(counts, [Ok(14407), Ok(14408), Ok(14407), Ok(14407), Ok(14408)]);
+}
+
+/// 1/2, 2/2, 3/2 and 4/2 are rounded to 1, 1, 2 and 2; with an odd divisor 1/3, 2/3 and 3/3 to 0, 1
+/// and 1.
+#[test]
+fn rates_rounded_by_hand() {
+    let settings = Settings::new(1, 0, 1);
+    let mut keeper = Keeper::new(2);
+    assert_eq!([(); 4].map(|()| keeper.call(settings, 1, 2)), [Ok(1), Ok(0), Ok(1), Ok(0)]);
+    let mut keeper = Keeper::new(3);
+    assert_eq!([(); 3].map(|()| keeper.call(settings, 1, 3)), [Ok(0), Ok(1), Ok(0)]);
+}
+
+/// Four counts of one keeper, beside two counts and, after a restart, two more.
+#[test]
+fn a_restarted_keeper_begins_a_new_sum() {
+    let total = |keeper: &mut Keeper, times| -> u32 {
+        (0..times).map(|_| keeper.call(OPU0, 18671875, 1296).unwrap()).sum()
+    };
+    assert_eq!(total(&mut Keeper::new(1296), 4), 57629);
+    let mut keeper = Keeper::new(1296);
+    let before = total(&mut keeper, 2);
+    keeper = Keeper::new(1296);
+    assert_eq!((before, total(&mut keeper, 2)), (28815, 28815));
 }
 
 #[test]

@@ -18,7 +18,7 @@ pub struct Done {
     pub large: u64,
     /// Those with the settings of OPU0.
     pub opu0: u64,
-    /// Accepted keeper calls and new sources.
+    /// Accepted keeper calls, new keepers and new sources.
     pub others: u64,
     /// Calls turned back, by the refusal's number.
     pub refused: [u64; 10],
@@ -41,6 +41,7 @@ pub struct Case {
 enum Call {
     NewSource(Settings, u32, u8),
     Source(Settings, Source, u32, Vec<u8>, Vec<u8>),
+    NewKeeper(u32),
     Keeper(Settings, Keeper, u32, u32),
     Sink(Settings, Sink, Vec<u8>, Vec<u8>, Tally),
 }
@@ -152,6 +153,14 @@ impl Case {
         their_client.must_be("client bytes", client);
         their_frame.must_be("frame", frame);
         self.count_frame(settings, ours.err());
+        ours
+    }
+
+    pub fn keeper_new(&mut self, q: u32) -> Keeper {
+        self.last = Some(Call::NewKeeper(q));
+        let (theirs, ours) = (odu0::Keeper::new(q), Keeper::new(q));
+        assert_eq!(theirs.remainder, ours.remainder, "a new keeper: library, second");
+        self.count_other(None);
         ours
     }
 
@@ -304,6 +313,7 @@ impl fmt::Display for Call {
                 writeln!(f, "  client, {} bytes: {}", client.len(), hex(client))?;
                 write!(f, "  frame before, {} bytes: {}", frame.len(), hex(frame))
             }
+            Call::NewKeeper(q) => write!(f, "  a new keeper; q {q}"),
             Call::Keeper(settings, state, p, q) => {
                 write!(f, "  a keeper call; {settings:?}; {state:?}; p {p}, q {q}")
             }

@@ -12,7 +12,7 @@ const USUAL: (u32, u32) = (18_671_875, 1296);
 
 /// What odu0map writes, by the second implementation: the frames, and what it says of them.
 pub fn mapped(input: &[u8], (p, q): (u32, u32)) -> Written {
-    let mut keeper = Keeper::new();
+    let mut keeper = Keeper::new(q);
     let mut source = Source::new(OPU0, keeper.call(OPU0, p, q).unwrap(), TYPE).unwrap();
     let (mut out, mut rest, mut frames) = (Vec::new(), input, 0);
     while rest.len() >= source.count as usize {
@@ -129,16 +129,17 @@ fn demapping_what_was_harmed() {
     }
 }
 
-/// Through both filters: a new sink hands out every load but the first, for want of its count.
+/// Through both filters: the first frame says only "one more", so a new sink hands out every load
+/// but the first two, for want of their counts.
 #[test]
 fn there_and_back() {
     let input = Random::new(14).bytes(14407 * 50);
     let frames = run("odu0map", &[], vec![input.clone()], None);
     let back = run("odu0demap", &[], vec![frames.out], None);
-    assert!(input[14407..].starts_with(&back.out));
-    assert!(back.said.starts_with("frame 1: READ 14407\n"), "{}", back.said);
+    assert!(input[14407 + 14408..].starts_with(&back.out));
+    assert!(back.said.starts_with("frame 1: WAITING -\nframe 2: PAIRED 14407\n"), "{}", back.said);
     assert!(
-        back.said.ends_with("odu0demap: frames 49, BADCHECK 0, bytes 691551\n"),
+        back.said.ends_with("odu0demap: frames 49, BADCHECK 0, bytes 677143\n"),
         "{}",
         back.said
     );
@@ -156,7 +157,7 @@ fn slow_pieces() {
     assert!(back == demapped(&frames.out), "{}", back.said);
 }
 
-/// A rest is told exactly where the input ends within a load. The fourth has a byte more.
+/// A rest is told exactly where the input ends within a load. The second has a byte more.
 #[test]
 fn input_that_ends_around_a_load() {
     let input = Random::new(16).bytes(57_630);
@@ -166,9 +167,11 @@ fn input_that_ends_around_a_load() {
         (14_406, "odu0map: 14406 bytes left at the end\nodu0map: frames 0, bytes 0\n"),
         (14_407, "odu0map: frames 1, bytes 14407\n"),
         (14_408, "odu0map: 1 bytes left at the end\nodu0map: frames 1, bytes 14407\n"),
-        (43_220, "odu0map: 14406 bytes left at the end\nodu0map: frames 2, bytes 28814\n"),
-        (43_221, "odu0map: frames 3, bytes 43221\n"),
-        (57_628, "odu0map: 14407 bytes left at the end\nodu0map: frames 3, bytes 43221\n"),
+        (28_814, "odu0map: 14407 bytes left at the end\nodu0map: frames 1, bytes 14407\n"),
+        (28_815, "odu0map: frames 2, bytes 28815\n"),
+        (28_816, "odu0map: 1 bytes left at the end\nodu0map: frames 2, bytes 28815\n"),
+        (43_221, "odu0map: 14406 bytes left at the end\nodu0map: frames 2, bytes 28815\n"),
+        (43_222, "odu0map: frames 3, bytes 43222\n"),
         (57_629, "odu0map: frames 4, bytes 57629\n"),
         (57_630, "odu0map: 1 bytes left at the end\nodu0map: frames 4, bytes 57629\n"),
     ];
@@ -183,23 +186,25 @@ fn input_that_ends_around_a_load() {
 #[test]
 fn input_that_ends_around_a_frame() {
     let frames = mapped(&Random::new(17).bytes(57_629), USUAL).out;
-    let (first, third) = ("frame 1: READ 14407\n", "frame 3: TRACKED 14408\n");
+    let lines = ["frame 1: WAITING -\n", "frame 2: PAIRED 14407\n", "frame 3: READ 14407\n"];
+    let (one, all_but_one) =
+        ("odu0demap: 1 bytes left at the end\n", "odu0demap: 15239 bytes left at the end\n");
     let cases = [
-        (0, ["", "", ""], [0, 0]),
-        (1, ["", "", "odu0demap: 1 bytes left at the end\n"], [0, 0]),
-        (15_239, ["", "", "odu0demap: 15239 bytes left at the end\n"], [0, 0]),
-        (15_240, [first, "", ""], [1, 0]),
-        (15_241, [first, "", "odu0demap: 1 bytes left at the end\n"], [1, 0]),
-        (30_479, [first, "", "odu0demap: 15239 bytes left at the end\n"], [1, 0]),
-        (30_480, [first, "", ""], [2, 14_407]),
-        (45_719, [first, "", "odu0demap: 15239 bytes left at the end\n"], [2, 14_407]),
-        (45_720, [first, third, ""], [3, 28_814]),
-        (45_721, [first, third, "odu0demap: 1 bytes left at the end\n"], [3, 28_814]),
+        (0, "", 0, 0),
+        (1, one, 0, 0),
+        (15_239, all_but_one, 0, 0),
+        (15_240, "", 1, 0),
+        (15_241, one, 1, 0),
+        (30_479, all_but_one, 1, 0),
+        (30_480, "", 2, 0),
+        (45_719, all_but_one, 2, 0),
+        (45_720, "", 3, 14_407),
+        (45_721, one, 3, 14_407),
     ];
-    for (length, lines, [taken, bytes]) in cases {
+    for (length, rest, taken, bytes) in cases {
         let totals = format!("odu0demap: frames {taken}, BADCHECK 0, bytes {bytes}\n");
         let written = run("odu0demap", &[], vec![frames[..length].to_vec()], None);
-        assert_eq!(written.said, lines.concat() + &totals, "{length} bytes");
+        assert_eq!(written.said, lines[..taken].concat() + rest + &totals, "{length} bytes");
         assert!(written == demapped(&frames[..length]), "{length} bytes");
     }
 }
