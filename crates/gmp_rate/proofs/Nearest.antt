@@ -1,5 +1,5 @@
--- Rounding to the nearest whole number, exact halves going up. That one number only is nearest makes
--- equations of it: what the first remainder gives and the rounded total both are. Assumes nothing.
+-- Rounding to the nearest whole number, exact halves going up. One number only is nearest, so what
+-- the first remainder gives and the rounded total, which both are, are equal. Assumes nothing.
 use mathlib.Core.Path.{_≡_, refl}
 use mathlib.Core.Bool.{Bool, true, false}
 use Prim.Native.Nat.{ℕ, _+_, _*_, _/_, _%_, _≤_, _<_}

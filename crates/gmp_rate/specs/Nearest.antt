@@ -7,8 +7,8 @@ use lib.ListN.{length}
 use Rattle.gmp_rate.specs.Rate.{firstRemainder}
 use Rattle.gmp_rate.specs.Sum.{KeeperCall, countsFrom, SharedRate, sum}
 
--- T is "nearest to t × p / q, exact halves going up": t × p / q lies less than a half above T and at
--- most a half below it, in whole numbers
+-- T is "nearest to t × p / q, exact halves going up": t × p / q lies less than a half above T and
+-- at most a half below it, in whole numbers
 pub record Nearest (t p q T : ℕ) : Type 0 where
   pub above : 2 * t * p < 2 * q * T + q
   pub below : 2 * q * T ≤ 2 * t * p + q

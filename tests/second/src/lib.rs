@@ -1,10 +1,10 @@
 //! A second implementation of the ODU0 generic mapper, and a small generator of random numbers.
 //!
-//! It is written from the scope paper, in the paper's own order and with no thought of speed: every
-//! place is tested by n × C mod S < C, the check is a long division bit by bit, and the sink is the
-//! paper's rules 1 to 3 one after the other. Where the paper is silent it goes by odu0.h: a
-//! multiframe number above 255 is taken modulo 256. Of a remembered word only the 16 bits that a
-//! word has are looked at.
+//! It is written from the scope paper and the change requests that have come (02), in the paper's
+//! own order and with no thought of speed: every place is tested by n × C mod S < C, the check is a
+//! long division bit by bit, and the sink is the paper's rules 1 to 3 one after the other. Where
+//! the paper is silent it goes by odu0.h: a multiframe number above 255 is taken modulo 256. Of a
+//! remembered word only the 16 bits that a word has are looked at.
 
 mod random;
 

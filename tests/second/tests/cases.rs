@@ -1,5 +1,5 @@
-//! The worked frames of the scope paper, run against the library: the starred ones, which are
-//! proved as well, and the others.
+//! The worked frames of the scope paper and the worked counts of 02's P7, run against the library:
+//! those that are proved as well, and the others.
 
 use odu0::{Keeper, Refusal, Settings, Sink, Source, Standing, Taken, Tally};
 
