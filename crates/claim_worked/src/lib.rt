@@ -4,7 +4,7 @@ ghost use Rattle.claim_worked.specs.Run.{WorkedRun};
 ghost use Rattle.claim_worked.specs.Readable.{Readable};
 ghost use Rattle.claim_worked.specs.Less.{NoLess};
 
-// The starred cases of the paper hold.
+// The starred cases of 01 hold, with the counts of 02's P7 in the place of 01's.
 pub fn starred_cases()
     ensures { λ _. ⌜ AllHold starred ⌝ }
 {}
