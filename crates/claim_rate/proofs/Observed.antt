@@ -1,14 +1,11 @@
 -- Observed calls of the keeper go as the definitions go. Assumes nothing.
-use mathlib.Core.Path.{_≡_, refl, sym, ap, _∙_, subst}
-use mathlib.Core.Bool.{true}
+use mathlib.Core.Path.{_≡_, refl, ap, _∙_, subst}
 use mathlib.Core.List.{List, [], _∷_, _++_}
-use Prim.Native.Nat.{ℕ, _+_, _*_, _/_, _<_}
+use Prim.Native.Nat.{ℕ}
 use native.Mathlib.Omega.{arith}
-use lib.ListN.{length}
 use Rattle.refusals.specs.Table.{accepts}
 use Rattle.gmp_rate.specs.Rate.{Kept, answerMeaning, resultMeaning, keeperCall, firstRemainder}
-use Rattle.gmp_rate.specs.Sum.{KeeperCall, answered, given, countsFrom, SharedRate, sum, roundedTotal}
-use Rattle.gmp_rate.specs.Nearest.{Nearest}
+use Rattle.gmp_rate.specs.Sum.{answered, given, countsFrom, SharedRate}
 use Rattle.gmp_rate.proofs.Sum.{counts-add-up, totals-are-nearest}
 use Rattle.claim_rate.specs.Observed.{KeeperSeen, Passed, SharedSeen, callsOf, countsOf, ObservedCounts}
 
