@@ -36,10 +36,10 @@ observed-counts =
       begin = λ κs q r e. let h : r ≡ firstRemainder q = e in omega arith;
       as-defined = counts-are;
       from-any = λ p q r h seen passed s.
-          rw (counts-are r seen passed) (omega (arith, counts-add-up .from-any p q r h (callsOf seen) (shared-is p q r seen passed s)));
+          rw (counts-are r seen passed) (counts-add-up .from-any p q r h (callsOf seen) (shared-is p q r seen passed s));
       new = λ p q seen h passed s.
           rw (counts-are (firstRemainder q) seen passed)
-          (omega (arith, counts-add-up .new p q (callsOf seen) h (shared-is p q (firstRemainder q) seen passed s)));
+          (counts-add-up .new p q (callsOf seen) h (shared-is p q (firstRemainder q) seen passed s));
       nearest = λ p q seen h passed s.
           let n = totals-are-nearest .total p q (callsOf seen) h (shared-is p q (firstRemainder q) seen passed s) in
           rw (counts-are (firstRemainder q) seen passed) (record { above = omega arith; below = omega arith });

@@ -1,9 +1,9 @@
--- Rounding to the nearest whole number, exact halves going up. One number only is nearest, so what
--- the first remainder gives and the rounded total, which both are, are equal. Assumes nothing.
-use mathlib.Core.Path.{_≡_, refl}
+-- Rounding to the nearest whole number, exact halves going up. The rounded total is the one number
+-- that is nearest, and half of q before the counts makes their sum nearest. Assumes nothing.
+use mathlib.Core.Path.{_≡_, refl, sym, _∙_}
 use mathlib.Core.Bool.{Bool, true, false}
 use Prim.Native.Nat.{ℕ, _+_, _*_, _/_, _%_, _≤_, _<_}
-use native.Mathlib.Nat.{div-add-mod, lt-of-mul-lt-mul-left, mod-lt, mul-add, mul-assoc, mul-le-mul-left}
+use native.Mathlib.Nat.{add-mul, div-add-mod, div-eq-of-lt-le, mod-lt, mul-add, mul-assoc, mul-comm, mul-le-mul-left}
 use native.Mathlib.Omega.{arith}
 use lib.Dec.{ltb}
 use borrow.Author.Tests.{ltb-true, ltb-false}
@@ -11,22 +11,31 @@ use Rattle.gmp_rate.specs.Rate.{firstRemainder}
 use Rattle.gmp_rate.specs.Sum.{roundedTotal}
 use Rattle.gmp_rate.specs.Nearest.{Nearest, apart}
 
-pub rounded-nearest : (t p q : ℕ) → 0 < q → Nearest t p q (roundedTotal t p q)
-rounded-nearest t p q pos =
-    let left : (2 * t * p + q) % (2 * q) < 2 * q = mod-lt (2 * t * p + q) (omega arith) in
-    let same : 2 * q * ((2 * t * p + q) / (2 * q)) + (2 * t * p + q) % (2 * q) ≡ 2 * t * p + q = div-add-mod (2 * t * p + q) (2 * q) in
-    record { above = omega arith; below = omega arith }
+-- T is the whole part of n / m
+pub whole-part : (m n T : ℕ) → m * T ≤ n → n < m * T + m → n / m ≡ T
+whole-part m n T low high = div-eq-of-lt-le m (omega (arith, mul-comm m T)) (omega (arith, add-mul T 1 m, mul-comm m T))
 
--- twice what is left over, and one more where q is odd, is still below 2 × q
-pub start-nearest : (t p q : ℕ) → 0 < q → Nearest t p q ((firstRemainder q + t * p) / q)
-start-nearest t p q pos =
-    let T : ℕ = (firstRemainder q + t * p) / q in
-    let left : (firstRemainder q + t * p) % q < q = mod-lt (firstRemainder q + t * p) pos in
-    let same : q * T + (firstRemainder q + t * p) % q ≡ firstRemainder q + t * p = div-add-mod (firstRemainder q + t * p) q in
+-- with half of q first, what comes in is q × T and less than q left over: twice that, and one more
+-- where q is odd, is below 2 × q
+pub half-rounds : (t p q T left : ℕ) → left < q → q * T + left ≡ firstRemainder q + t * p → Nearest t p q T
+half-rounds t p q T left below same =
     record {
       above = omega (arith, mul-assoc 2 t p, mul-assoc 2 q T);
       below = omega (arith, mul-assoc 2 t p, mul-assoc 2 q T);
     }
+
+-- the nearest is the rounded total; another quotient in its place would be judged by its numbers
+pub nearest-is : (t p q T : ℕ) → Nearest t p q T → roundedTotal t p q ≡ T
+nearest-is t p q T n =
+    whole-part _ _ T (omega (arith, mul-assoc 2 t p, mul-assoc 2 q T)) (omega (arith, mul-assoc 2 t p, mul-assoc 2 q T))
+
+-- from the first remainder the sum of t counts is the rounded total, for odd and even q alike
+pub start : (t p q : ℕ) → 0 < q → (firstRemainder q + t * p) / q ≡ roundedTotal t p q
+start t p q pos =
+    sym
+    (nearest-is t p q _
+    (half-rounds t p q ((firstRemainder q + t * p) / q) ((firstRemainder q + t * p) % q) (mod-lt (firstRemainder q + t * p) pos)
+    (div-add-mod (firstRemainder q + t * p) q)))
 
 -- a greater number is at least q further on, q times
 further : (q T U : ℕ) → T < U → q * T + q ≤ q * U
@@ -36,10 +45,7 @@ further q T U h =
 
 module _ (t p q T U : ℕ) (n : Nearest t p q T) where
   pub only : Nearest t p q U → U ≡ T
-  only m =
-      let up : 2 * q * T < 2 * q * (U + 1) = omega (arith, mul-add (2 * q) U 1) in
-      let down : 2 * q * U < 2 * q * (T + 1) = omega (arith, mul-add (2 * q) T 1) in
-      omega (arith, lt-of-mul-lt-mul-left (2 * q) up, lt-of-mul-lt-mul-left (2 * q) down)
+  only m = sym (nearest-is t p q U m) ∙ nearest-is t p q T n
 
   pub no-nearer : apart (q * T) (t * p) ≤ apart (q * U) (t * p)
   no-nearer = by (ltb T U) (ltb U T) refl refl
@@ -57,7 +63,3 @@ module _ (t p q T U : ℕ) (n : Nearest t p q T) where
       by : (a : Bool) → ltb T U ≡ a → U ≤ T
       by true e = omega (arith, further q T U (ltb-true T U e), mul-assoc 2 t p, mul-assoc 2 q T)
       by false e = ltb-false T U e
-
--- from the first remainder the sum of t counts is the rounded total, for odd and even q alike
-pub start : (t p q : ℕ) → 0 < q → (firstRemainder q + t * p) / q ≡ roundedTotal t p q
-start t p q pos = only t p q (roundedTotal t p q) _ (rounded-nearest t p q pos) (start-nearest t p q pos)

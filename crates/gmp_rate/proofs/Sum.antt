@@ -5,9 +5,8 @@ use mathlib.Core.Path.{_≡_, refl, sym, ap, _∙_, subst}
 use mathlib.Core.Bool.{Bool, true, false, true≢false}
 use mathlib.Core.List.{List, [], _∷_, _++_}
 use Prim.Native.Nat.{ℕ, _+_, _*_, _/_, _%_, _<_}
-use native.Mathlib.Nat.{add-mul, suc-mul, zero-mul, div-add-mod', mod-lt}
+use native.Mathlib.Nat.{add-mul, mul-comm, suc-mul, zero-mul, div-add-mod', mod-lt}
 use native.Mathlib.Omega.{arith}
-use lib.Arith.{digits-div}
 use lib.Dec.{eqb}
 use lib.ListN.{length}
 use borrow.Author.Tests.{eqb-true, eqb-false}
@@ -15,9 +14,9 @@ use Rattle.refusals.specs.Table.{accepted, accepts}
 use Rattle.gmp_settings.specs.Settings.{outside}
 use Rattle.gmp_rate.specs.Rate.{Kept, keeperRefusal, keeperCall, firstRemainder}
 use Rattle.gmp_rate.specs.Sum.{KeeperCall, answered, given, countsFrom, SharedRate, sum, CountsAddUp}
-use Rattle.gmp_rate.specs.Nearest.{TotalsAreNearest}
+use Rattle.gmp_rate.specs.Nearest.{Nearest, TotalsAreNearest}
 use Rattle.gmp_rate.proofs.Laws.{accepted-knows, count-inside, call-accepted, call-refused}
-use Rattle.gmp_rate.proofs.Nearest.{start-nearest, start, only, no-nearer, halves-up}
+use Rattle.gmp_rate.proofs.Nearest.{whole-part, half-rounds, nearest-is, start, only, no-nearer, halves-up}
 
 -- the last remainder, with what is known of it
 record Balance (p q r : ℕ) (counts : List ℕ) : Type 0 where
@@ -61,15 +60,13 @@ balance p q r h (c ∷ cs) shared =
         subst (Balance p q r) (sym (ap (λ (x : Kept). given (x .answer) ++ countsFrom (x .remainder) cs) k))
         (same (subst (λ (x : ℕ). SharedRate p q x cs) (ap (λ (x : Kept). x .remainder) k) (shared .1)))
 
-from-any : (p q r : ℕ) → r < q → (calls : List KeeperCall) → SharedRate p q r calls → sum (countsFrom r calls) ≡ (r + length (countsFrom r calls) * p) / q
-from-any p q r h calls shared =
-    let b = balance p q r h calls shared in
-    sym (digits-div (sum (countsFrom r calls)) (b .below)) ∙ ap (λ (x : ℕ). x / q) (b .same)
-
--- those of a new keeper, which begins below q
-from-first : (p q : ℕ) (calls : List KeeperCall) → 0 < q → SharedRate p q (firstRemainder q) calls
-    → sum (countsFrom (firstRemainder q) calls) ≡ (firstRemainder q + length (countsFrom (firstRemainder q) calls) * p) / q
-from-first p q calls pos shared = from-any p q (firstRemainder q) (omega arith) calls shared
+-- the sum of a new keeper, which begins below q
+total : (p q : ℕ) (calls : List KeeperCall) → 0 < q → SharedRate p q (firstRemainder q) calls
+    → Nearest (length (countsFrom (firstRemainder q) calls)) p q (sum (countsFrom (firstRemainder q) calls))
+total p q calls pos shared =
+    let counts : List ℕ = countsFrom (firstRemainder q) calls in
+    let b = balance p q (firstRemainder q) (omega arith) calls shared in
+    half-rounds (length counts) p q (sum counts) (b .last) (b .below) (omega (arith, b .same, mul-comm q (sum counts)))
 
 in-window : (c : KeeperCall) (r n : ℕ) → answered c r .answer ≡ accepted n → outside (c .settings) n ≡ false
 in-window c r n e = by (eqb (keeperRefusal (c .settings) (c .p) (c .q) r) 0) refl
@@ -91,18 +88,19 @@ in-window c r n e = by (eqb (keeperRefusal (c .settings) (c .p) (c .q) r) 0) ref
 pub counts-add-up : CountsAddUp
 counts-add-up =
     record {
-      from-any = λ p q r h calls shared. omega (arith, from-any p q r h calls shared);
+      from-any = λ p q r h calls shared.
+          let b = balance p q r h calls shared in
+          let S : ℕ = sum (countsFrom r calls) in
+          sym (whole-part _ _ S (omega (arith, b .same, mul-comm q S)) (omega (arith, b .same, b .below, mul-comm q S)));
       start = start;
-      new = λ p q calls pos shared.
-          omega (arith, from-first p q calls pos shared, start (length (countsFrom (firstRemainder q) calls)) p q pos);
+      new = λ p q calls pos shared. sym (nearest-is _ p q _ (total p q calls pos shared));
       in-window = in-window;
     }
 
 pub totals-are-nearest : TotalsAreNearest
 totals-are-nearest =
     record {
-      total = λ p q calls pos shared.
-          rw (from-first p q calls pos shared) (start-nearest (length (countsFrom (firstRemainder q) calls)) p q pos);
+      total = total;
       only = only;
       no-nearer = no-nearer;
       halves-up = λ t p q T U n same. omega (arith, halves-up t p q T U n same);

@@ -4,7 +4,7 @@ use mathlib.Core.List.{[], _∷_}
 use Prim.Native.Nat.{ℕ}
 use Rattle.gmp_settings.specs.Settings.{newSettings, opu0}
 use Rattle.gmp_rate.specs.Rate.{keeperRefusal, keeperCall, firstRemainder}
-use Rattle.gmp_rate.specs.Sum.{KeeperCall, countsFrom, sum}
+use Rattle.gmp_rate.specs.Sum.{KeeperCall, countsFrom, sum, roundedTotal}
 
 -- 1000BASE-X on OPU0
 abbrev pub gigabit : KeeperCall
@@ -16,6 +16,10 @@ pub counts : countsFrom (firstRemainder 1296) (gigabit ∷ gigabit ∷ gigabit �
     ≡ 14407 ∷ 14408 ∷ 14407 ∷ 14407 ∷ 14408 ∷ []
 unfolding countsFrom keeperCall keeperRefusal
 counts = refl
+
+-- they add up to 72037, where 5 × 18671875 / 1296 is 72036.56
+pub five : roundedTotal 5 18671875 1296 ≡ 72037
+five = refl
 
 -- one client byte in q frames, on the grid K = 1 with the window 0 to 1
 abbrev oneIn : ℕ → KeeperCall
