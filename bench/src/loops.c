@@ -1,6 +1,6 @@
 /*
  * The placing and the taking of client bytes in C: byte by byte, and run by run with memcpy.
- * Control bytes are the caller's.
+ * Control bytes are the caller's. At the end the check, from tables and by steps.
  */
 #include <stddef.h>
 #include <stdint.h>
@@ -100,4 +100,39 @@ void runs_take(const uint8_t *frame, uint8_t *out, size_t k, size_t c)
         out += k - i;
         m -= k - i;
     }
+}
+
+static uint8_t tables[2][256];
+
+/* Eight steps of the division. */
+static uint8_t steps(uint8_t byte)
+{
+    for (int i = 0; i < 8; i++)
+        byte = (uint8_t)(byte << 1 ^ (byte >> 7 ? 0x0D : 0));
+    return byte;
+}
+
+void fill_tables(void)
+{
+    for (int byte = 0; byte < 256; byte++) {
+        tables[0][byte] = steps((uint8_t)byte);
+        tables[1][byte] = steps(steps((uint8_t)byte));
+    }
+}
+
+/* One table, looked up twice. */
+uint8_t table_check(uint8_t jc1, uint8_t jc2)
+{
+    return tables[0][tables[0][jc1] ^ jc2];
+}
+
+/* One table for each byte. */
+uint8_t tables_check(uint8_t jc1, uint8_t jc2)
+{
+    return tables[1][jc1] ^ tables[0][jc2];
+}
+
+uint8_t steps_check(uint8_t jc1, uint8_t jc2)
+{
+    return steps(steps(jc1) ^ jc2);
 }

@@ -1,6 +1,8 @@
 //! Times the proved source call and sink call on frames beside plain and fast versions that nobody
 //! proved, in one run, as ratios. All versions are first seen to agree, and with the argument
-//! `check` that is all.
+//! `check` that is all. With `against`, two libraries are timed beside each other instead.
+
+mod against;
 
 use odu0::{Settings, Sink, Source, Tally};
 use std::hint::black_box;
@@ -179,6 +181,11 @@ fn show(title: &str, t: [f64; 5]) {
 }
 
 fn main() {
+    let arguments: Vec<String> = std::env::args().skip(1).collect();
+    if let [mode, before, after] = &arguments[..] {
+        assert_eq!(mode, "against");
+        return against::main(before, after);
+    }
     for k in 1..40 {
         for c in 0..=4 * k {
             Job::new(k, c).agree();
@@ -187,7 +194,7 @@ fn main() {
     let opu0 = Job::new(3808, 14407);
     opu0.agree();
     println!("all versions agree");
-    if std::env::args().nth(1).as_deref() == Some("check") {
+    if arguments == ["check"] {
         return;
     }
     let (place, take) = measure(&opu0);

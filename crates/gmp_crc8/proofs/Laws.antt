@@ -1,5 +1,4 @@
--- What the crates above cite of the check; none of it speaks of a table or of the division. Assumes
--- nothing.
+-- What the crates above cite of the check; none of it speaks of the division. Assumes nothing.
 use mathlib.Core.Path.{_≡_, refl, subst⁻¹}
 use mathlib.Core.Bool.{Bool, true, false}
 use mathlib.Core.Logic.{_⊎_, inl, inr}

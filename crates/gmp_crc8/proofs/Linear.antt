@@ -7,6 +7,7 @@ use native.Mathlib.Omega.{arith}
 use lib.Bits.{bitXor, xor-shr, xor-lt, xor-block, xor-zero-r}
 use lib.Dec.{T, ltb, eqb, eqb→eq, ltb→lt, lit<}
 use Rattle.math.specs.Xor.{xor-medial}
+use Rattle.math.specs.Linear.{Linear}
 use Rattle.math.specs.Finite.{both-left, both-right, below, at-below, agree-below}
 use Rattle.math.specs.Bits.{digit, bits, digit-lt, digit-xor}
 use Rattle.gmp_crc8.specs.Division.{generator, reduce, divide}
@@ -72,6 +73,11 @@ divide-xor [] r s hr hs = refl
 divide-xor (x ∷ xs) r s hr hs =
     ap (λ (b : Bool). divide (reduce (bitXor r s * 2 + digit b)) xs) (sym (false-xor x)) ∙ ap (λ (t : ℕ). divide t xs) (step-xor r s false x hr hs)
     ∙ divide-xor xs (reduce (r * 2 + 0)) (reduce (s * 2 + digit x)) (step-lt r false hr) (step-lt s x hs)
+
+-- so the remainder of a byte times x^8 is linear
+pub times-linear : Linear 256 (λ k. divide k (bits 0))
+unfolding bits
+times-linear = record { of-xor = divide-xor (bits 0) }
 
 -- a remainder is of degree 7 at most
 pub divide-lt : (xs : List Bool) (r : ℕ) → r < 256 → divide r xs < 256

@@ -1,13 +1,11 @@
 -- Tests over finitely many numbers: antt computes one test, and a law turns it into the fact at
 -- each number. Assumes nothing.
-use mathlib.Core.Path.{_≡_, subst⁻¹}
+use mathlib.Core.Path.{_≡_, refl, subst⁻¹}
 use mathlib.Core.Logic.{⊎-elim}
 use mathlib.Core.Bool.{Bool, true, false, _&&_}
-use mathlib.Core.List.{List}
 use Prim.Native.Nat.{ℕ, zero, suc, _<_}
 use native.Mathlib.Nat.{eq-or-lt-of-le, le-of-suc-le-suc, not-suc-le-zero}
 use lib.Dec.{T, eqb, eqb→eq}
-use lib.ListN.{getD}
 
 pub both-left : (a b : Bool) → T (a && b) → T a
 both-left true b t = tt
@@ -33,6 +31,9 @@ at-below f (suc n) t k h =
 pub agree-below : (f g : ℕ → ℕ) (n : ℕ) → T (below (λ k. eqb (f k) (g k)) n) → (k : ℕ) → k < n → f k ≡ g k
 agree-below f g n t k h = eqb→eq (f k) (g k) (at-below (λ i. eqb (f i) (g i)) n t k h)
 
--- a table's rule at each of its first n entries, by one test over them
-pub table-rule : (table : List ℕ) (rule : ℕ → ℕ) (n : ℕ) → T (below (λ k. eqb (getD table k 0) (rule k)) n) → (k : ℕ) → k < n → getD table k 0 ≡ rule k
-table-rule table rule n t k h = agree-below (λ i. getD table i 0) rule n t k h
+-- Two functions that agree below n agree at b, where only the goal shows what f makes of b. Given
+-- `λ agree k h e. rw e (agree k h)` antt puts a variable k for b in the goal and reads f off it, so
+-- what the code makes of b is written once, in the code.
+pub agree-goal : {G : Type 0} (f g : ℕ → ℕ) (n b : ℕ) → b < n → (((k : ℕ) → k < n → f k ≡ g k) → (k : ℕ) → k < n → b ≡ k → G)
+    → ((k : ℕ) → k < n → f k ≡ g k) → G
+agree-goal f g n b h show agree = show agree b h refl

@@ -18,3 +18,5 @@ mod nearest;
 mod refusals;
 #[path = "agree/runs.rs"]
 mod runs;
+#[path = "agree/words.rs"]
+mod words;

@@ -1,23 +1,21 @@
--- `gmp_crc8::times_x8` meets its contract: the table's rule is one test over its 256 entries, which
--- antt computes. The table is read off the function's own walk, so no copy of it stands here.
+-- `gmp_crc8::times_x8` meets its contract. The division is linear, and so are exclusive-or and
+-- shifts, however the code puts them together: so the eight bytes of one bit decide, which antt
+-- computes. What the code makes of a byte is read off the goal, and no copy of it stands here.
 -- Assumes nothing.
 use borrow.Author.Needs.{needs}
 use Rattle.math.specs.Bits.{bits}
-use Rattle.math.specs.Finite.{table-rule}
+use Rattle.math.specs.Finite.{agree-goal}
+use Rattle.math.specs.Linear.{linear-agree, linear·rules}
 use Rattle.gmp_crc8.specs.Division.{reduce, divide}
+use Rattle.gmp_crc8.proofs.Linear.{times-linear}
 use Rattle.gmp_crc8.proofs.times_x8.Statement.{statement}
 use Rattle.gmp_crc8.proofs.times_x8.Tie as tie
-use Rattle.gmp_crc8.proofs.times_x8.Reads as reads
-use Rattle.gmp_crc8.proofs.times_x8.Lts as lts
-
-array-read-result : tie.Need-array-read-result
-array-read-result c = search needs
 
 returns : tie.Need-returns
 unfolding divide bits reduce
 returns c =
-    table-rule (borrow.Table.Row.get 2 (lts.T2 .locals) (lts.m1 reads.Pre reads.Post (c .args) (c .blocks))) (λ k. divide k (bits 0)) 256 tt
-    (c .args .byte) (search needs)
+    agree-goal _ (λ k. divide k (bits 0)) 256 (c .args .byte) (search needs) (λ agree k h e. rw e (agree k h))
+    (linear-agree 8 _ _ (search linear·rules depth 12) times-linear tt)
 
 pub times-x8-spec : {M : Type 1} → statement M
-times-x8-spec = tie.close (tie.spec array-read-result returns)
+times-x8-spec = tie.close (tie.spec returns)

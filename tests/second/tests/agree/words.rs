@@ -1,0 +1,74 @@
+//! The check of every control word (02, P5: "Nothing that the check says changes"), beside the
+//! equations that G.709 gives for it in Table IX.1 and the division of the second implementation.
+
+use crate::both::settings_of;
+use crate::given::{control_bytes, put_control, WIDE};
+use odu0::{Sink, Source, Standing, Tally};
+use second::{check, Settings};
+
+/// Table IX.1: for JC1's C1 to C8 and JC2's C9 to C14, II and DI the bits of JC3, crc1 to crc8,
+/// whose exclusive-or they are in.
+const EQUATIONS: [&[u8; 8]; 16] = [
+    b".X...X.X",
+    b"X.X..X..",
+    b".X.X..X.",
+    b"..X.X..X",
+    b"X..X..X.",
+    b".X..X..X",
+    b"X.X...X.",
+    b".X.X...X",
+    b"X.X.XXX.",
+    b".X.X.XXX",
+    b"X.X.XX.X",
+    b"XX.X....",
+    b".XX.X...",
+    b"..XX.X..",
+    b"...XX.X.",
+    b"....XX.X",
+];
+
+/// JC3 of JC1 and JC2 by those equations, each bit by itself.
+fn equated(word: u16) -> u8 {
+    let bit = |crc: usize| {
+        let inputs = (0..16).filter(|row| EQUATIONS[*row][crc] == b'X');
+        inputs.filter(|row| word >> (15 - row) & 1 == 1).count() % 2
+    };
+    (0..8).fold(0, |jc3, crc| jc3 << 1 | bit(crc) as u8)
+}
+
+/// A sink says BADCHECK of every word of 24 bits whose JC3 is another, and of no other word.
+#[test]
+fn every_word_that_is_read() {
+    let settings = Settings::new(1, 0, 4);
+    let (mut frame, mut out, mut tally) = ([0; 12], [0; 4], Tally::default());
+    for word in 0..=u16::MAX {
+        let right = equated(word);
+        assert_eq!(u32::from(right), check(u32::from(word)), "{word:04X}");
+        let [jc1, jc2] = word.to_be_bytes();
+        for jc3 in 0..=255 {
+            put_control(settings, &mut frame, [jc1, jc2, jc3]);
+            let taken = Sink::new().call(settings_of(settings), &frame, &mut out, &mut tally);
+            let bad = taken.unwrap().standing == Standing::BadCheck;
+            assert_eq!(bad, jc3 != right, "{word:04X} {jc3:02X}");
+        }
+    }
+    assert_eq!((tally.frames, tally.bad), (1 << 24, 255 << 16));
+}
+
+/// A source writes JC3 by the equations, for each count of the largest grid with each change that
+/// has a pattern, and with the change to what the count leaves of the payload.
+#[test]
+fn every_word_that_is_written() {
+    let settings = settings_of(WIDE);
+    let client = vec![0x55; WIDE.hi as usize];
+    let mut frame = vec![0; WIDE.frame() as usize];
+    for old in 0..=WIDE.hi {
+        let near = (old.saturating_sub(2)..=old + 2).filter(|next| WIDE.holds(*next));
+        for next in near.chain([WIDE.hi - old]) {
+            let mut source = Source { count: old, multiframe: 0, payload_type: 7 };
+            source.call(settings, next, &client[..old as usize], &mut frame).unwrap();
+            let [jc1, jc2, jc3] = control_bytes(WIDE).map(|at| frame[at]);
+            assert_eq!(jc3, equated(u16::from_be_bytes([jc1, jc2])), "{old} to {next}");
+        }
+    }
+}
