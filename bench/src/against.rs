@@ -7,7 +7,7 @@ use odu0::{Settings, Source, Tally};
 use std::cell::RefCell;
 use std::ffi::{c_char, c_int, c_void, CString};
 use std::hint::black_box;
-use std::mem::transmute_copy;
+use std::mem::transmute;
 
 type Check = unsafe extern "C" fn(u8, u8) -> u8;
 type SourceCall =
@@ -47,9 +47,9 @@ impl Library {
         // SAFETY: these are the functions of odu0.h, and the check as bench/against exports it.
         unsafe {
             Library {
-                source: transmute_copy(&find("odu0_source_call")),
-                sink: transmute_copy(&find("odu0_sink_call")),
-                check: transmute_copy(&find("odu0_check")),
+                source: transmute::<*mut c_void, SourceCall>(find("odu0_source_call")),
+                sink: transmute::<*mut c_void, SinkCall>(find("odu0_sink_call")),
+                check: transmute::<*mut c_void, Check>(find("odu0_check")),
             }
         }
     }
