@@ -6,7 +6,7 @@ use Prim.Native.Nat.{ℕ, zero, suc, _*_, _-_, _/_, _%_, _^_, _≤_, _<_}
 use native.Mathlib.Nat.{one-mul}
 use native.Mathlib.Omega.{arith}
 use lib.Bits.{bitXor, xor-shr, xor-shifted, xor-self}
-use lib.Dec.{T, eqb, eqb→eq, ltb, ltb→lt, nltb→le}
+use lib.Dec.{T, eqb, eqb→eq, ltb, ltb→lt, nltb→le, lit<}
 use lib.Pow.{pow-pos}
 use Rattle.math.specs.Xor.{xor-medial, xor-shl}
 use Rattle.math.specs.Finite.{both-left, both-right, below}
@@ -31,20 +31,23 @@ linear-shr n j f lf = record { of-xor = λ a b ha hb. ap (λ (x : ℕ). x / 2 ^ 
 pub linear-shl : (n j w : ℕ) (f : ℕ → ℕ) → Linear n f → Linear n (λ x. f x * 2 ^ j % 2 ^ w)
 linear-shl n j w f lf = record { of-xor = λ a b ha hb. ap (λ (x : ℕ). x * 2 ^ j % 2 ^ w) (lf .of-xor a b ha hb) ∙ xor-shl (f a) (f b) j w }
 
--- by these `search` shows that exclusive-or and shifts are linear, however they are put together
+-- by these `search` finds that what exclusive-or and shifts are put together to is linear
 pub ruleset linear·rules = (linear-self, linear-xor, linear-shr, linear-shl)
 
-lower : (m : ℕ) (f : ℕ → ℕ) → Linear (2 ^ suc m) f → Linear (2 ^ m) f
-lower m f l = record { of-xor = λ a b ha hb. l .of-xor a b (omega arith) (omega arith) }
+-- on one bit less
+fewer : (m : ℕ) (f : ℕ → ℕ) → Linear (2 ^ suc m) f → Linear (2 ^ m) f
+fewer m f l = record { of-xor = λ a b ha hb. l .of-xor a b (omega arith) (omega arith) }
 
-at-zero : (m : ℕ) (f : ℕ → ℕ) → Linear (2 ^ m) f → f 0 ≡ 0
-at-zero m f l = l .of-xor 0 0 (pow-pos m) (pow-pos m) ∙ xor-self (f 0)
+-- a linear function makes 0 of 0
+at-zero : (f : ℕ → ℕ) → Linear 1 f → f 0 ≡ 0
+at-zero f l = l .of-xor 0 0 (lit< tt) (lit< tt) ∙ xor-self (f 0)
 
 -- a number that has the highest of m + 1 bits is this bit and the rest
 highest : (m k : ℕ) → 2 ^ m ≤ k → k < 2 ^ suc m → bitXor (2 ^ m) (k - 2 ^ m) ≡ k
 highest m k l h =
     ap (λ (x : ℕ). bitXor x (k - 2 ^ m)) (sym (one-mul (2 ^ m))) ∙ xor-shifted 1 m (k - 2 ^ m) (omega arith) ∙ omega arith
 
+-- what agrees on m bits and at the next one agrees on m + 1 bits
 one-more : (m : ℕ) (f g : ℕ → ℕ) → Linear (2 ^ suc m) f → Linear (2 ^ suc m) g → f (2 ^ m) ≡ g (2 ^ m) → ((k : ℕ) → k < 2 ^ m → f k ≡ g k)
     → (k : ℕ) → k < 2 ^ suc m → f k ≡ g k
 one-more m f g lf lg e rest k h = by (ltb k (2 ^ m)) (ltb→lt k (2 ^ m)) (nltb→le k (2 ^ m))
@@ -61,9 +64,9 @@ one-more m f g lf lg e rest k h = by (ltb k (2 ^ m)) (ltb→lt k (2 ^ m)) (nltb�
 pub linear-agree : (m : ℕ) (f g : ℕ → ℕ) → Linear (2 ^ m) f → Linear (2 ^ m) g → T (below (λ i. eqb (f (2 ^ i)) (g (2 ^ i))) m)
     → (k : ℕ) → k < 2 ^ m → f k ≡ g k
 linear-agree zero f g lf lg t k h =
-    let e : k ≡ 0 = omega arith in ap f e ∙ at-zero 0 f lf ∙ sym (at-zero 0 g lg) ∙ sym (ap g e)
+    let e : k ≡ 0 = omega arith in ap f e ∙ at-zero f lf ∙ sym (at-zero g lg) ∙ sym (ap g e)
 linear-agree (suc m) f g lf lg t k h =
     let this = eqb (f (2 ^ m)) (g (2 ^ m)) in
     let others = below (λ i. eqb (f (2 ^ i)) (g (2 ^ i))) m in
     one-more m f g lf lg (eqb→eq _ _ (both-left this others t))
-    (linear-agree m f g (lower m f lf) (lower m g lg) (both-right this others t)) k h
+    (linear-agree m f g (fewer m f lf) (fewer m g lg) (both-right this others t)) k h
