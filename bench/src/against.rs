@@ -99,18 +99,21 @@ fn agree(checks: &[Check]) {
     }
 }
 
-fn show(title: &str, [before, after]: [f64; 2]) {
-    println!("{title:<28} {after:>9.1} ns   {:.3} of before", after / before);
+/// Shows what a call took after, in parts of the time before: the race in the middle of an odd
+/// number of them.
+fn show(title: &str, mut races: Vec<[f64; 2]>) {
+    let ratio = |[before, after]: &[f64; 2]| after / before;
+    races.sort_by(|one, other| ratio(one).total_cmp(&ratio(other)));
+    let middle = races[races.len() / 2];
+    println!("{title:<28} {:>9.1} ns   {:.3} of before", middle[1], ratio(&middle));
 }
 
-/// The times of the two libraries at a call, the best of ten races. They are lent the same buffers,
-/// since it matters where a buffer stands.
-fn both<'a>(libraries: &'a [Library; 2], call: impl Fn(&'a Library)) -> [f64; 2] {
-    (0..10).fold([f64::MAX; 2], |[b, a], _| {
-        let [before, after] = libraries.each_ref();
-        let [before, after] = race([Box::new(|| call(before)), Box::new(|| call(after))]);
-        [b.min(before), a.min(after)]
-    })
+/// The times of the two libraries at a call. They are lent the same buffers, since it matters where
+/// a buffer stands.
+fn both<'a>(libraries: &'a [Library; 2], call: impl Fn(&'a Library)) -> Vec<[f64; 2]> {
+    let [before, after] = libraries.each_ref();
+    let once = |_| race([Box::new(|| call(before)), Box::new(|| call(after))]);
+    (0..31).map(once).collect()
 }
 
 pub fn main(before: &str, after: &str) {
@@ -139,7 +142,7 @@ pub fn main(before: &str, after: &str) {
     agree(&checks);
     let chains = checks.map(|check| Box::new(move || chain(check)) as Box<dyn FnMut()>);
     let [before, after, table, tables, steps] = race(chains).map(|t| t / f64::from(CHECKS));
-    show("the check alone", [before, after]);
+    show("the check alone", vec![[before, after]]);
     let [table, tables, steps] = [table, tables, steps].map(|other| after / other);
     println!("  {table:.2} of a table in C, {tables:.2} of two tables, {steps:.2} of steps");
 }

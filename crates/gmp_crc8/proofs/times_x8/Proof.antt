@@ -1,7 +1,8 @@
 -- `gmp_crc8::times_x8` meets its contract. The division is linear, and so are exclusive-or and
 -- shifts, however the code puts them together: so the eight bytes of one bit decide, which antt
--- computes. What the code makes of a byte is read off the goal, and no copy of it stands here.
--- Assumes nothing.
+-- computes. What the code makes of a byte is read off the goal, and no copy of it stands here. An
+-- exclusive-or that begins with the byte itself is not known again there, so in the code the byte
+-- stands last. Assumes nothing.
 use borrow.Author.Needs.{needs}
 use Rattle.math.specs.Bits.{bits}
 use Rattle.math.specs.Finite.{agree-goal}
