@@ -7,30 +7,16 @@ use odu0::{Sink, Source, Standing, Tally};
 use second::{check, Settings};
 
 /// Table IX.1: for JC1's C1 to C8 and JC2's C9 to C14, II and DI the bits of JC3, crc1 to crc8,
-/// whose exclusive-or they are in.
-const EQUATIONS: [&[u8; 8]; 16] = [
-    b".X...X.X",
-    b"X.X..X..",
-    b".X.X..X.",
-    b"..X.X..X",
-    b"X..X..X.",
-    b".X..X..X",
-    b"X.X...X.",
-    b".X.X...X",
-    b"X.X.XXX.",
-    b".X.X.XXX",
-    b"X.X.XX.X",
-    b"XX.X....",
-    b".XX.X...",
-    b"..XX.X..",
-    b"...XX.X.",
-    b"....XX.X",
+/// whose exclusive-or they are in; the paper's X is a 1.
+const EQUATIONS: [u8; 16] = [
+    0b01000101, 0b10100100, 0b01010010, 0b00101001, 0b10010010, 0b01001001, 0b10100010, 0b01010001,
+    0b10101110, 0b01010111, 0b10101101, 0b11010000, 0b01101000, 0b00110100, 0b00011010, 0b00001101,
 ];
 
 /// JC3 of JC1 and JC2 by those equations, each bit by itself.
 fn equated(word: u16) -> u8 {
     let bit = |crc: usize| {
-        let inputs = (0..16).filter(|row| EQUATIONS[*row][crc] == b'X');
+        let inputs = (0..16).filter(|row| EQUATIONS[*row] >> (7 - crc) & 1 == 1);
         inputs.filter(|row| word >> (15 - row) & 1 == 1).count() % 2
     };
     (0..8).fold(0, |jc3, crc| jc3 << 1 | bit(crc) as u8)
@@ -56,7 +42,7 @@ fn every_word_that_is_read() {
 }
 
 /// A source writes JC3 by the equations, for each count of the largest grid with each change that
-/// has a pattern, and with the change to what the count leaves of the payload.
+/// has a pattern and with one more, to 15,232 less the count.
 #[test]
 fn every_word_that_is_written() {
     let settings = settings_of(WIDE);
