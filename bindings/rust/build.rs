@@ -5,12 +5,12 @@ use std::{env, process};
 
 fn main() {
     println!("cargo:rerun-if-env-changed=ODU0_LIB_DIR");
-    let dir = match env::var_os("ODU0_LIB_DIR") {
-        Some(dir) => PathBuf::from(dir),
-        None => PathBuf::from(env!("CARGO_MANIFEST_DIR")).join("../../target/staticlib"),
-    };
+    // Cargo runs this in the folder of the crate. The path is taken then, and not when this is
+    // compiled, so that a tree that was copied with its target/ finds its own archive.
+    let dir = PathBuf::from(env::var_os("ODU0_LIB_DIR").unwrap_or("../../target/staticlib".into()));
+    println!("cargo:rerun-if-changed={}", dir.join("libodu0.a").display());
+    let dir = env::current_dir().unwrap().join(dir);
     let archive = dir.join("libodu0.a");
-    println!("cargo:rerun-if-changed={}", archive.display());
     if !archive.is_file() {
         eprintln!("There is no {}.", archive.display());
         eprintln!(
