@@ -1,9 +1,9 @@
 //! The library of one commit beside that of another, both loaded at once. `bench/against` makes
-//! them.
+//! them. Both must take the settings of this tree's odu0.h.
 
 use crate::{race, Job};
-use odu0::ffi::{Sink, SinkReply, SourceReply};
-use odu0::{Settings, Source, Tally};
+use odu0::ffi::{Settings, Sink, SinkReply, SourceReply};
+use odu0::{Source, Tally};
 use std::cell::RefCell;
 use std::ffi::{c_char, c_int, c_void, CString};
 use std::hint::black_box;
@@ -59,9 +59,10 @@ impl Library {
         let state = Source { count, multiframe: 0, payload_type: 7 };
         let frame = black_box(frame);
         let (at, length) = (frame.as_mut_ptr(), frame.len());
+        let settings = Settings::from(job.settings);
         // SAFETY: the buffers are live and do not overlap.
         let reply = unsafe {
-            (self.source)(job.settings, state, count, client.as_ptr(), client.len(), at, length)
+            (self.source)(settings, state, count, client.as_ptr(), client.len(), at, length)
         };
         assert_eq!(reply.refusal, 0);
     }
@@ -72,9 +73,10 @@ impl Library {
         let state = Sink { known: 1, count, remembered: 0, word: 0 };
         let out = black_box(out);
         let (at, length) = (out.as_mut_ptr(), out.len());
+        let settings = Settings::from(job.settings);
         // SAFETY: the buffers and the tally are live and do not overlap.
         let reply = unsafe {
-            (self.sink)(job.settings, state, frame.as_ptr(), frame.len(), at, length, &mut tally)
+            (self.sink)(settings, state, frame.as_ptr(), frame.len(), at, length, &mut tally)
         };
         assert_eq!((reply.refusal, reply.handed), (0, count));
     }

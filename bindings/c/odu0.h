@@ -19,19 +19,22 @@ extern "C" {
 
 /*
  * Why a call is turned back: the refusal's number, its name and when it applies. A call that more
- * than one of these applies to answers the lowest number. 0 says that the call was accepted.
+ * than one of these applies to answers the lowest number. 0 says that the call was accepted; no
+ * call here answers 10 to 13.
  */
 enum odu0_refusal {
     ODU0_ACCEPTED = 0,
-    ODU0_GRID = 1,    /* grid: k is 0 or above 3,808 */
-    ODU0_WINDOW = 2,  /* window: lo > hi, or hi > 4 * k */
-    ODU0_DIVISOR = 3, /* divisor: q is 0 or above 65,535 */
-    ODU0_RATE = 4,    /* rate: the whole part of p / q is below lo, or p > hi * q */
-    ODU0_STATE = 5,   /* state: source's count outside the window, keeper's remainder q or more */
-    ODU0_COUNT = 6,   /* count: the next count is outside the window */
-    ODU0_CLIENT = 7,  /* client: the client bytes are not exactly the present count */
-    ODU0_FRAME = 8,   /* frame: the frame buffer is not exactly 4 * k + 8 bytes */
-    ODU0_SPACE = 9    /* space: the output buffer is shorter than hi */
+    ODU0_GRID = 1,     /* grid: k is 0 or above 3,808 */
+    ODU0_WINDOW = 2,   /* window: lo > hi, or hi > 4 * k */
+    ODU0_DIVISOR = 3,  /* divisor: q is 0 or above 65,535 */
+    ODU0_RATE = 4,     /* rate: the whole part of p / q is below lo, or p > hi * q */
+    ODU0_STATE = 5,    /* state: source's count outside the window, keeper's remainder q or more */
+    ODU0_COUNT = 6,    /* count: the next count is outside the window */
+    ODU0_CLIENT = 7,   /* client: the client bytes are not exactly the present count */
+    ODU0_FRAME = 8,    /* frame: the frame buffer is not exactly 4 * k + 8 bytes */
+    ODU0_SPACE = 9,    /* space: the output buffer is shorter than hi */
+    ODU0_PATTERNS = 14 /* patterns: four are given; plus1 ^ plus2 is not minus1 ^ minus2, or is 0,
+                          or one of the four is above 16,383 */
 };
 
 /* What a sink says of a frame: the standing, by its name. 0 stands where the call was refused. */
@@ -46,21 +49,43 @@ enum odu0_standing {
 };
 
 /*
- * The settings: k payload columns in a row (1 to 3,808), and the window of counts lo to hi, hi at
- * most 4 * k.
+ * The settings: k payload columns in a row (1 to 3,808); the window of counts lo to hi, hi at most
+ * 4 * k; and the inversion patterns, with which a control word says that the count changes by +1,
+ * -1, +2 or -2. A source and its sinks need the same ones.
+ *
+ * Where `given` is 0 the patterns are the standard's, whatever the four numbers after it are, and
+ * are never refused. Where it is any other value the four numbers are the patterns. Each is of 14
+ * bits, 0 to 16,383, with C1 the highest and C14 the lowest; plus1 ^ plus2 must equal
+ * minus1 ^ minus2, and must not be 0. A pattern of 0 is allowed, and so is a plus pattern that
+ * equals a minus pattern.
  */
 typedef struct odu0_settings {
     uint32_t k;
     uint32_t lo;
     uint32_t hi;
+    uint32_t given;
+    uint32_t plus1;
+    uint32_t minus1;
+    uint32_t plus2;
+    uint32_t minus2;
 } odu0_settings;
 
 /* clang-format off */
-/* Initialises settings: const odu0_settings eight = ODU0_SETTINGS(2, 0, 8); */
-#define ODU0_SETTINGS(k, lo, hi) {(k), (lo), (hi)}
+/*
+ * Initialises settings with the standard's patterns:
+ * const odu0_settings eight = ODU0_SETTINGS(2, 0, 8);
+ */
+#define ODU0_SETTINGS(k, lo, hi) {(k), (lo), (hi), 0, 0, 0, 0, 0}
+
+/* Initialises settings with four other patterns; patterns.c shows a whole job with such. */
+#define ODU0_SETTINGS_WITH_PATTERNS(k, lo, hi, plus1, minus1, plus2, minus2) \
+    {(k), (lo), (hi), 1, (plus1), (minus1), (plus2), (minus2)}
 /* clang-format on */
 
-/* Initialises the settings of OPU0: const odu0_settings opu0 = ODU0_OPU0; */
+/*
+ * Initialises the settings of OPU0 with the standard's patterns:
+ * const odu0_settings opu0 = ODU0_OPU0;
+ */
 #define ODU0_OPU0 ODU0_SETTINGS(3808, 14405, 14410)
 
 /*
@@ -127,14 +152,14 @@ typedef struct odu0_sink_reply {
 } odu0_sink_reply;
 
 /*
- * A new source with its first count, inside the window, and its payload type. Refusals 1, 2, 5; the
- * state of a refusal is all zero.
+ * A new source with its first count, inside the window, and its payload type. Refusals 1, 2, 5, 14;
+ * the state of a refusal is all zero.
  */
 odu0_source_reply odu0_source_new(odu0_settings settings, uint32_t first, uint8_t payload_type);
 
 /*
  * Writes the next frame, of 4 * k + 8 bytes, from exactly "present count" client bytes, and
- * announces the next count in it. Refusals 1, 2, 5, 6, 7, 8.
+ * announces the next count in it. Refusals 1, 2, 5, 6, 7, 8, 14.
  */
 odu0_source_reply odu0_source_call(odu0_settings settings,
                                    odu0_source state,
@@ -153,7 +178,7 @@ odu0_source_reply odu0_source_call(odu0_settings settings,
  */
 uint32_t odu0_keeper_new(uint32_t q);
 
-/* The next count at p / q client bytes a frame. Refusals 1, 2, 3, 4, 5. */
+/* The next count at p / q client bytes a frame. Refusals 1, 2, 3, 4, 5, 14. */
 odu0_keeper_reply odu0_keeper_call(odu0_settings settings,
                                    uint32_t p,
                                    uint32_t q,
@@ -165,7 +190,7 @@ odu0_sink odu0_sink_new(void);
 /*
  * Takes a frame: hands out, to the start of the output buffer, the client bytes at the places of
  * the count known before, leaves the bytes after them as they were, follows the control word, and
- * counts the frame in the tally. Refusals 1, 2, 8, 9.
+ * counts the frame in the tally. Refusals 1, 2, 8, 9, 14.
  */
 odu0_sink_reply odu0_sink_call(odu0_settings settings,
                                odu0_sink state,

@@ -3,7 +3,22 @@
 
 #![allow(missing_docs)]
 
-use crate::{Settings, Source, Tally};
+use crate::{Source, Tally};
+
+/// odu0_settings: a `given` of 0 says the standard's patterns, whatever the four numbers after it
+/// are; any other value says that they are the patterns.
+#[repr(C)]
+#[derive(Clone, Copy, Debug, PartialEq, Eq)]
+pub struct Settings {
+    pub k: u32,
+    pub lo: u32,
+    pub hi: u32,
+    pub given: u32,
+    pub plus1: u32,
+    pub minus1: u32,
+    pub plus2: u32,
+    pub minus2: u32,
+}
 
 /// odu0_sink: a flag of 0 says none, whatever stands beside it.
 #[repr(C)]

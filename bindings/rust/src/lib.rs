@@ -3,7 +3,8 @@
 //! Every call accepts every value of every argument and buffers of every length, and ends with an
 //! answer or a [`Refusal`]. A refused call changes no buffer, no state and no tally. The library
 //! keeps no state of its own; a state is plain data in the caller's hands, and nothing here
-//! allocates. `examples/mapper.rs` shows a whole job.
+//! allocates. `examples/mapper.rs` shows a whole job, and `examples/patterns.rs` one with inversion
+//! patterns other than the standard's.
 
 #![no_std]
 #![warn(missing_docs)]
@@ -12,8 +13,7 @@ pub mod ffi;
 
 use core::fmt;
 
-/// The settings: the grid and the window.
-#[repr(C)]
+/// The settings: the grid, the window and the inversion patterns.
 #[derive(Clone, Copy, Debug, PartialEq, Eq)]
 pub struct Settings {
     /// Payload columns in a row, 1 to 3,808.
@@ -22,15 +22,40 @@ pub struct Settings {
     pub lo: u32,
     /// The largest count, at most 4 × k.
     pub hi: u32,
+    /// The inversion patterns; `None` says the standard's, which are never refused. A source and
+    /// its sinks need the same ones.
+    pub patterns: Option<Patterns>,
+}
+
+/// Four inversion patterns, with which a control word says that the count changes by +1, −1, +2 or
+/// −2. Each is of 14 bits, 0 to 16,383, with C1 the highest and C14 the lowest; plus1 ^ plus2 must
+/// equal minus1 ^ minus2, and must not be 0. A pattern of 0 is allowed, and so is a plus pattern
+/// that equals a minus pattern.
+#[derive(Clone, Copy, Debug, PartialEq, Eq)]
+pub struct Patterns {
+    /// The pattern of +1.
+    pub plus1: u32,
+    /// The pattern of −1.
+    pub minus1: u32,
+    /// The pattern of +2.
+    pub plus2: u32,
+    /// The pattern of −2.
+    pub minus2: u32,
 }
 
 impl Settings {
-    /// OPU0: 3,808 columns, counts 14,405 to 14,410.
+    /// OPU0: 3,808 columns, counts 14,405 to 14,410, the standard's patterns.
     pub const OPU0: Settings = Settings::new(3808, 14405, 14410);
 
-    /// Settings with k payload columns in a row and the window of counts lo to hi.
+    /// Settings with k payload columns in a row, the window of counts lo to hi, and the standard's
+    /// patterns.
     pub const fn new(k: u32, lo: u32, hi: u32) -> Settings {
-        Settings { k, lo, hi }
+        Settings { k, lo, hi, patterns: None }
+    }
+
+    /// The same grid and window with these patterns in the place of the standard's.
+    pub const fn with_patterns(self, patterns: Patterns) -> Settings {
+        Settings { patterns: Some(patterns), ..self }
     }
 }
 
@@ -56,11 +81,14 @@ pub enum Refusal {
     Frame = 8,
     /// 9: the output buffer is shorter than hi.
     Space = 9,
+    /// 14: four patterns are given; plus1 ^ plus2 is not minus1 ^ minus2, or is 0, or one of the
+    /// four is above 16,383.
+    Patterns = 14,
 }
 
 impl Refusal {
     /// Every refusal, in the order of their numbers.
-    pub const ALL: [Refusal; 9] = [
+    pub const ALL: [Refusal; 10] = [
         Refusal::Grid,
         Refusal::Window,
         Refusal::Divisor,
@@ -70,9 +98,10 @@ impl Refusal {
         Refusal::Client,
         Refusal::Frame,
         Refusal::Space,
+        Refusal::Patterns,
     ];
 
-    /// Its number, 1 to 9.
+    /// Its number, 1 to 9 or 14.
     pub fn number(self) -> u32 {
         self as u32
     }
@@ -89,6 +118,7 @@ impl Refusal {
             Refusal::Client => "client",
             Refusal::Frame => "frame",
             Refusal::Space => "space",
+            Refusal::Patterns => "patterns",
         }
     }
 }
@@ -167,16 +197,17 @@ pub struct Source {
 
 impl Source {
     /// A new source with its first count, inside the window, and its payload type. Refusals: grid,
-    /// window, state.
+    /// window, state, patterns.
     pub fn new(settings: Settings, first: u32, payload_type: u8) -> Result<Source, Refusal> {
         // SAFETY: the function takes and returns plain values, and every one of them is allowed.
-        let reply = unsafe { ffi::odu0_source_new(settings, first, payload_type) };
+        let reply = unsafe { ffi::odu0_source_new(settings.into(), first, payload_type) };
         accepted(reply.refusal)?;
         Ok(reply.state)
     }
 
     /// Writes the next frame, of 4 × k + 8 bytes, from exactly "present count" client bytes, and
-    /// announces the next count in it. Refusals: grid, window, state, count, client, frame.
+    /// announces the next count in it. Refusals: grid, window, state, count, client, frame,
+    /// patterns.
     pub fn call(
         &mut self,
         settings: Settings,
@@ -188,7 +219,7 @@ impl Source {
         // lent for writing, so they do not overlap.
         let reply = unsafe {
             ffi::odu0_source_call(
-                settings,
+                settings.into(),
                 self.clone(),
                 next,
                 client.as_ptr(),
@@ -220,10 +251,11 @@ impl Keeper {
         Keeper { remainder }
     }
 
-    /// The next count at p / q client bytes a frame. Refusals: grid, window, divisor, rate, state.
+    /// The next count at p / q client bytes a frame. Refusals: grid, window, divisor, rate, state,
+    /// patterns.
     pub fn call(&mut self, settings: Settings, p: u32, q: u32) -> Result<u32, Refusal> {
         // SAFETY: the function takes and returns plain values, and every one of them is allowed.
-        let reply = unsafe { ffi::odu0_keeper_call(settings, p, q, self.remainder) };
+        let reply = unsafe { ffi::odu0_keeper_call(settings.into(), p, q, self.remainder) };
         self.remainder = reply.remainder;
         accepted(reply.refusal)?;
         Ok(reply.count)
@@ -273,7 +305,7 @@ impl Sink {
 
     /// Takes a frame: hands out, to the start of `out`, the client bytes at the places of the count
     /// known before, leaves the bytes after them as they were, follows the control word, and counts
-    /// the frame in the tally. Refusals: grid, window, frame, space.
+    /// the frame in the tally. Refusals: grid, window, frame, space, patterns.
     pub fn call(
         &mut self,
         settings: Settings,
@@ -286,7 +318,7 @@ impl Sink {
         // them overlap.
         let reply = unsafe {
             ffi::odu0_sink_call(
-                settings,
+                settings.into(),
                 ffi::Sink::from(&*self),
                 frame.as_ptr(),
                 frame.len(),
@@ -313,6 +345,16 @@ impl Sink {
 impl Default for Sink {
     fn default() -> Sink {
         Sink::new()
+    }
+}
+
+impl From<Settings> for ffi::Settings {
+    fn from(settings: Settings) -> ffi::Settings {
+        let Settings { k, lo, hi, patterns } = settings;
+        let given = patterns.is_some().into();
+        let Patterns { plus1, minus1, plus2, minus2 } =
+            patterns.unwrap_or(Patterns { plus1: 0, minus1: 0, plus2: 0, minus2: 0 });
+        ffi::Settings { k, lo, hi, given, plus1, minus1, plus2, minus2 }
     }
 }
 

@@ -1,11 +1,12 @@
 // The rate keeper for C and Rust: numbers in, numbers out. All meaning is in the crates below; here
 // values are only converted.
+use c_settings::SettingsNumbers;
 use gmp_rate::KeeperAnswer;
 use gmp_rate::KeeperResult;
 use gmp_refusal::Verdict;
-use gmp_settings::Settings;
 ghost use mathlib.Core.Path.{_≡_};
 ghost use Rattle.gmp_rate.specs.Rate.{keeperCall, firstRemainder, resultMeaning};
+ghost use Rattle.c_settings.specs.Numbers.{settingsFrom};
 ghost use Rattle.c_rate.specs.Numbers.{keeperReply};
 
 // The refusal's number or 0, the count or 0, and the remainder.
@@ -25,14 +26,15 @@ pub extern "C" fn odu0_keeper_new(q: u32) -> u32
 
 #[no_mangle]
 pub extern "C" fn odu0_keeper_call(
-    settings: Settings,
+    settings: SettingsNumbers,
     p: u32,
     q: u32,
     remainder: u32,
 ) -> KeeperReply
-    ensures { λ r. ⌜ r ≡ keeperReply (keeperCall settings p q remainder) ⌝ }
+    ensures { λ r. ⌜ r ≡ keeperReply (keeperCall (settingsFrom settings) p q remainder) ⌝ }
 {
-    keeper_reply(gmp_rate::next_count(settings, p, q, remainder))
+    let card = c_settings::settings_from(settings);
+    keeper_reply(gmp_rate::next_count(card, p, q, remainder))
 }
 
 fn keeper_reply(result: KeeperResult) -> KeeperReply

@@ -1,15 +1,16 @@
 // The sink for C and Rust: numbers and buffers in, numbers out. All meaning is in the crates below;
 // here values are only converted.
+use c_settings::SettingsNumbers;
 use card_tally::Tally;
 use gmp_control::Remembered;
 use gmp_refusal::Verdict;
-use gmp_settings::Settings;
 use gmp_sink::SinkAnswer;
 use gmp_sink::SinkResult;
 use gmp_sink::SinkState;
 use gmp_standing::Count;
 ghost use mathlib.Core.Path.{_≡_};
 ghost use Rattle.gmp_sink.specs.Sink.{newSink, answerMeaning};
+ghost use Rattle.c_settings.specs.Numbers.{settingsFrom};
 ghost use Rattle.c_sink.specs.Numbers.{countFrom, countFlag, countValue, wordFrom, wordFlag, wordValue, stateFrom, stateNumbers, sinkReplyBy, SinkCallPromise};
 ghost use Rattle.c_sink.specs.Lossless.{Lossless};
 
@@ -49,13 +50,13 @@ pub extern "C" fn odu0_sink_new() -> SinkNumbers
 
 #[no_mangle]
 pub extern "C" fn odu0_sink_call(
-    settings: Settings,
+    settings: SettingsNumbers,
     state: SinkNumbers,
     frame: &[u8],
     out: &mut [u8],
     tally: &mut [u32; 3],
 ) -> SinkReply
-    ensures { λ r. ⌜ SinkCallPromise settings state (now (frame .entry)) (now (out .entry)) (now (tally .entry)) r (now (out .exit)) (now (tally .exit)) ⌝ }
+    ensures { λ r. ⌜ SinkCallPromise (settingsFrom settings) state (now (frame .entry)) (now (out .entry)) (now (tally .entry)) r (now (out .exit)) (now (tally .exit)) ⌝ }
 {
     let before = *tally;
     let counted = Tally {
@@ -63,7 +64,8 @@ pub extern "C" fn odu0_sink_call(
         bad: before[1],
         bytes: before[2],
     };
-    let called = card_sink::lend_call(settings, state_from(state), frame, out, counted);
+    let card = c_settings::settings_from(settings);
+    let called = card_sink::lend_call(card, state_from(state), frame, out, counted);
     let after = called.tally;
     *tally = [after.frames, after.bad, after.bytes];
     let result = called.result;

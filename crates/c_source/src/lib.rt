@@ -1,11 +1,12 @@
 // The source for C and Rust: numbers and buffers in, numbers out. All meaning is in the crates
 // below; here values are only converted.
+use c_settings::SettingsNumbers;
 use gmp_refusal::Verdict;
-use gmp_settings::Settings;
 use gmp_source::SourceStart;
 use gmp_source::SourceState;
 ghost use mathlib.Core.Path.{_≡_};
 ghost use Rattle.gmp_source.specs.Source.{newSource, startMeaning, sourceFrame};
+ghost use Rattle.c_settings.specs.Numbers.{settingsFrom};
 ghost use Rattle.c_source.specs.Numbers.{startReply, sourceReply};
 
 // The refusal's number or 0, and the source's state.
@@ -16,24 +17,30 @@ pub struct SourceReply {
 }
 
 #[no_mangle]
-pub extern "C" fn odu0_source_new(settings: Settings, first: u32, payload_type: u8) -> SourceReply
-    ensures { λ r. ⌜ r ≡ startReply (newSource settings first «payload_type») ⌝ }
+pub extern "C" fn odu0_source_new(
+    settings: SettingsNumbers,
+    first: u32,
+    payload_type: u8,
+) -> SourceReply
+    ensures { λ r. ⌜ r ≡ startReply (newSource (settingsFrom settings) first «payload_type») ⌝ }
 {
-    start_reply(gmp_source::new_source(settings, first, payload_type))
+    let card = c_settings::settings_from(settings);
+    start_reply(gmp_source::new_source(card, first, payload_type))
 }
 
 #[no_mangle]
 pub extern "C" fn odu0_source_call(
-    settings: Settings,
+    settings: SettingsNumbers,
     state: SourceState,
     next: u32,
     client: &[u8],
     frame: &mut [u8],
 ) -> SourceReply
-    ensures { λ r. ⌜ (r ≡ sourceReply settings state next (now (client .entry)) (now (frame .entry)))
-        × (now (frame .exit) ≡ sourceFrame settings state next (now (client .entry)) (now (frame .entry))) ⌝ }
+    ensures { λ r. ⌜ (r ≡ sourceReply (settingsFrom settings) state next (now (client .entry)) (now (frame .entry)))
+        × (now (frame .exit) ≡ sourceFrame (settingsFrom settings) state next (now (client .entry)) (now (frame .entry))) ⌝ }
 {
-    let result = gmp_source_call::source_call(settings, state, next, client, frame);
+    let card = c_settings::settings_from(settings);
+    let result = gmp_source_call::source_call(card, state, next, client, frame);
     let verdict = result.answer;
     let after = result.state;
     SourceReply {

@@ -92,7 +92,7 @@ module _ (s : Settings) (old : ℕ) (x : SourceStep) (z : SinkState) (y : SinkSt
   step-standing =
       ap (standingAfter s z) lent-control ∙ standing-written s z old (countOf x)
       ∙ ap (λ (c : Count). found s c (z .word) (announced (tableOf s) old (countOf x))) held
-      ∙ follows-true-count (tableOf s) (rule-of s) s (knows s old x link .fit) old (countOf x) (z .word) (old-inside s old x link) (next-inside s old x link)
+      ∙ follows-true-count (tableOf s) (rule-of s (knows s old x link .patterns)) s (knows s old x link .fit) old (countOf x) (z .word) (old-inside s old x link) (next-inside s old x link)
 
   step-count : followed s z y .count ≡ Known (countOf x)
   step-count = sink.count-after s z (controlOf (s .k) (y .call .frame)) ∙ ap (λ (f : Finding). f .count) step-standing
@@ -153,7 +153,7 @@ two-frames s old x x₂ z y y₂ a b e e₂ =
     (count-written s z old (countOf x))
     ∙ ap (λ (r : Remembered). found s (found s (z .count) (z .word) (announced t old (countOf x)) .count) r (announced t (countOf x) (countOf x₂)) .count)
     (word-written s z old (countOf x))
-    ∙ recovers-in-two t (rule-of s) s (knows s old x a .fit) old (countOf x) (countOf x₂) (z .count) (z .word)
+    ∙ recovers-in-two t (rule-of s (knows s old x a .patterns)) s (knows s old x a .fit) old (countOf x) (countOf x₂) (z .count) (z .word)
     (old-inside s old x a) (next-inside s old x a) (next-inside s (countOf x) x₂ b)
 
 -- A sink in any state, over two frames or more: it holds the count of the last, and delivers each
@@ -209,7 +209,7 @@ safe-by true s before old x z y link h in-window-before safe p =
     subst⁻¹ (SafeState s old (countOf x)) (ap (stateAfter s z) c)
     (subst⁻¹ (λ (r : Remembered). Safe t old (countOf x) (stateAfter s z (controlBytes s old (countOf x)) .count) r) (word-written s z old (countOf x))
     (subst⁻¹ (λ (n : Count). Safe t old (countOf x) n (usable (Word (announced t old (countOf x))))) (count-written s z old (countOf x))
-    (stays-safe t (rule-of s) s (knows s old x link .fit) before old (countOf x) (z .count) (z .word) in-window-before (old-inside s old x link)
+    (stays-safe t (rule-of s (knows s old x link .patterns)) s (knows s old x link .fit) before old (countOf x) (z .count) (z .word) in-window-before (old-inside s old x link)
     (next-inside s old x link) safe)))
 safe-by false s before old x z y link h in-window-before safe p =
     let t = tableOf s in

@@ -2,3 +2,4 @@ mod Starred
 mod Build
 mod Reading
 mod Run
+mod Customer

@@ -12,7 +12,7 @@ use Rattle.gmp_settings.specs.Grid.{frameBytes}
 use Rattle.gmp_settings.proofs.Laws.{all-passed, own-lines-decide}
 use Rattle.gmp_source.specs.declared.SourceState.{SourceState}
 use Rattle.gmp_source.specs.Source.{sourceReasons, sourceRefusal}
-use Rattle.gmp_source.proofs.Laws.{frame-accepted, length-of-written}
+use Rattle.gmp_source.proofs.Laws.{accepted-knows, frame-accepted, length-of-written}
 use Rattle.gmp_sink.specs.declared.SinkState.{SinkState}
 use Rattle.gmp_sink.specs.Sink.{sinkReasons, sinkRefusal}
 use Rattle.claim_recovery.specs.Runs.{At, Nth, Bytes, SourceCall, SinkCall, SourceStep, SinkStep, sinkAfter, sourceSteps, sinkSteps, frameOf}
@@ -26,8 +26,9 @@ use Rattle.claim_worked.proofs.Build.{All, reads-by}
 sink-takes : (s : Settings) (z : SourceState) (next c b f o : ℕ) → sourceRefusal s z next c b ≡ 0 → f ≡ frameBytes (s .k) → s .hi ≤ o → sinkRefusal s f o ≡ 0
 unfolding sourceRefusal sinkRefusal
 sink-takes s z next c b f o e l h =
+    let a = accepted-knows s z next c b e in
     own-lines-decide s (sinkReasons s f o) (all-passed s (sourceReasons s z next c b) e .0)
-    ∙ simp (eq-eqb f (frameBytes (s .k)) l, le-ltb o (s .hi) h)
+    ∙ rw (eq-eqb f (frameBytes (s .k)) l, le-ltb o (s .hi) h, a .patterns)
 
 -- the calls that are lent the first j of these frames
 abbrev FramesBytes : List SourceStep → Type 0

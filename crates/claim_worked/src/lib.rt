@@ -1,6 +1,7 @@
 // Worked frames, and what shows that demand 3 is neither empty nor more than it need be.
 ghost use Rattle.claim_worked.specs.Starred.{AllHold, starred};
 ghost use Rattle.claim_worked.specs.Run.{WorkedRun};
+ghost use Rattle.claim_worked.specs.Customer.{CustomerRun};
 ghost use Rattle.claim_worked.specs.Readable.{Readable};
 ghost use Rattle.claim_worked.specs.Less.{NoLess};
 
@@ -12,6 +13,11 @@ pub fn starred_cases()
 // A worked run, with refused calls, steps of every size and a hit in it.
 pub fn worked_run()
     ensures { λ _. ⌜ WorkedRun ⌝ }
+{}
+
+// The same with a customer's patterns, and its own steps.
+pub fn customer_run()
+    ensures { λ _. ⌜ CustomerRun ⌝ }
 {}
 
 // Every source run can be read by any sink, from any frame up to any later one.

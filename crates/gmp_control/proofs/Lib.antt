@@ -4,3 +4,4 @@ mod Pairing
 mod Announced
 pub mod Reading
 pub mod Laws
+mod Needed

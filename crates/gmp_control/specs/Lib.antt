@@ -4,4 +4,5 @@ pub mod Pattern
 pub mod Announce
 pub mod Follow
 pub mod Claims
+pub mod Checked
 pub mod Worked

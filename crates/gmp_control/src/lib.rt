@@ -1,6 +1,7 @@
 // The control word of a frame: its parts, the inversion patterns, and what source and sink can rely
 // on. What a source announces by the word is in the crate gmp_control_write, how a sink's count
 // follows it in the crate gmp_control_read.
+use gmp_settings::Patterns;
 use gmp_settings::Settings;
 use gmp_standing::Count;
 use gmp_standing::Standing;
@@ -8,6 +9,7 @@ ghost use mathlib.Core.Path.{_≡_};
 ghost use Rattle.gmp_control.specs.Word.{moved};
 ghost use Rattle.gmp_control.specs.Pattern.{tableOf, patternAt, changeAt};
 ghost use Rattle.gmp_control.specs.Claims.{TablesServe};
+ghost use Rattle.gmp_control.specs.Checked.{RuleIsChecked, RuleIsNeeded};
 
 // The two bytes of a word before its check.
 pub struct WordBytes {
@@ -28,7 +30,7 @@ pub struct Followed {
     pub word: Remembered,
 }
 
-// The inversion patterns, C1 to C14, of the changes +1, -1, +2, -2.
+// The standard's inversion patterns, C1 to C14, of the changes +1, -1, +2, -2.
 const PATTERNS: [u32; 4] = [
     0b10101010101010,
     0b01010101010101,
@@ -39,13 +41,18 @@ const PATTERNS: [u32; 4] = [
 // The same changes modulo 16,384.
 const CHANGES: [u32; 4] = [1, 16383, 2, 16382];
 
-// The pattern of a change, from the table of the settings. A change is 0 to 3; any further number
-// stands for none, and inverts nothing.
+// The pattern of a change, from the table of the settings: the standard's, or the four that they
+// carry. A change is 0 to 3; any further number stands for none, and inverts nothing.
 pub fn pattern(settings: Settings, change: usize) -> u32
     ensures { λ r. ⌜ r ≡ patternAt (tableOf settings) change ⌝ }
 {
     if change < 4 {
-        return PATTERNS[change];
+        let patterns = settings.patterns;
+        let Patterns::Given(four) = patterns else {
+            return PATTERNS[change];
+        };
+        let given = [four.plus1, four.minus1, four.plus2, four.minus2];
+        return given[change];
     }
     0
 }
@@ -61,6 +68,17 @@ pub fn move_count(count: u32, change: usize) -> u32
 // succession find the count from any state.
 pub fn tables_serve()
     ensures { λ _. ⌜ TablesServe ⌝ }
+{}
+
+// Settings to which number 14 does not apply have a table that keeps the rule, and no others have.
+pub fn rule_is_checked()
+    ensures { λ _. ⌜ RuleIsChecked ⌝ }
+{}
+
+// No part of the rule can be left out: of three tables that each break one part of it, each has a
+// run in which two words in succession do not find the count.
+pub fn rule_is_needed()
+    ensures { λ _. ⌜ RuleIsNeeded ⌝ }
 {}
 
 // A change, modulo 16,384.

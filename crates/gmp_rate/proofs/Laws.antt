@@ -11,6 +11,7 @@ use Rattle.math.specs.Choice.{neither}
 use Rattle.gmp_settings.specs.declared.Settings.{Settings}
 use Rattle.refusals.specs.Table.{accepted, refused}
 use Rattle.gmp_settings.specs.Settings.{settingsReasons, Fit, outside}
+use Rattle.gmp_settings.specs.Patterns.{badPatterns}
 use Rattle.refusals.proofs.Laws.{none-applies}
 use Rattle.gmp_settings.proofs.Laws.{settings-fit, all-passed}
 use Rattle.gmp_rate.specs.Rate.{badDivisor, badRate, badRemainder, keeperReasons, keeperRefusal, keptBy, keeperCall}
@@ -23,6 +24,7 @@ pub record Accepted (s : Settings) (p q r : ℕ) : Type 0 where
   pub least : s .lo ≤ p / q
   pub most : p ≤ s .hi * q
   pub below : r < q
+  pub patterns : badPatterns s ≡ false
 
 pub accepted-knows : (s : Settings) (p q r : ℕ) → keeperRefusal s p q r ≡ 0 → Accepted s p q r
 unfolding keeperRefusal
@@ -31,6 +33,7 @@ accepted-knows s p q r e =
     let three = none-applies 3 (badDivisor q) _ (lit< tt) (all .1) in
     let four = none-applies 4 (badRate s p q) _ (lit< tt) (three .1) in
     let five = none-applies 5 (badRemainder q r) _ (lit< tt) (four .1) in
+    let fourteen = none-applies 14 (badPatterns s) _ (lit< tt) (five .1) in
     let d = neither (eqb q 0) (ltb 65535 q) (three .0) in
     let t = neither (ltb (p / q) (s .lo)) (ltb (s .hi * q) p) (four .0) in
     let z : q ≡ 0 → ⊥ = eqb-false q 0 (d .0) in
@@ -41,6 +44,7 @@ accepted-knows s p q r e =
       least = ltb-false _ _ (t .0);
       most = ltb-false _ _ (t .1);
       below = leb-false _ _ (five .0);
+      patterns = fourteen .0;
     }
 
 module _ (s : Settings) (p q r : ℕ) (a : Accepted s p q r) where

@@ -9,6 +9,7 @@ use Rattle.gmp_refusal.specs.declared.Refusal.{Refusal}
 use Rattle.refusals.specs.Table.{Reason, reason, lowest, Answer, accepted, refused, answerBy}
 use Rattle.gmp_refusal.specs.Refusal.{refusalNumber}
 use Rattle.gmp_settings.specs.Settings.{settingsReasons}
+use Rattle.gmp_settings.specs.Patterns.{badPatterns}
 use Rattle.gmp_rate.specs.declared.KeeperAnswer.{KeeperAnswer}
 use Rattle.gmp_rate.specs.declared.KeeperAnswer.the-variants.{Next, Refused}
 use Rattle.gmp_rate.specs.declared.KeeperResult.{KeeperResult}
@@ -25,9 +26,10 @@ badRate s p q = ltb (p / q) (s .lo) || ltb (s .hi * q) p
 abbrev pub badRemainder : ℕ → ℕ → Bool
 badRemainder q r = leb q r
 
--- the lines of the table that are the keeper's own
+-- the lines of the table that are the keeper's own, and number 14 after them (02, P11)
 abbrev pub keeperReasons : Settings → ℕ → ℕ → ℕ → List Reason
-keeperReasons s p q r = reason 3 (badDivisor q) ∷ reason 4 (badRate s p q) ∷ reason 5 (badRemainder q r) ∷ []
+keeperReasons s p q r =
+    reason 3 (badDivisor q) ∷ reason 4 (badRate s p q) ∷ reason 5 (badRemainder q r) ∷ reason 14 (badPatterns s) ∷ []
 
 -- why a call is turned back, or 0
 unfoldable pub keeperRefusal : Settings → ℕ → ℕ → ℕ → ℕ

@@ -63,14 +63,16 @@ pub fn totals_are_nearest()
     ensures { λ _. ⌜ TotalsAreNearest ⌝ }
 {}
 
-// Numbers 1 to 5, in ascending order.
+// Numbers 1 to 5 and 14, in ascending order.
 fn judge_call(settings: Settings, p: u32, q: u32, r: u32) -> Verdict
     ensures { λ v. ⌜ verdictNumber v ≡ keeperRefusal settings p q r ⌝ }
 {
     let fit = gmp_settings::judge(settings);
     let divisor = gmp_refusal::refuse_if(fit, is_bad_divisor(q), Refusal::Divisor);
     let rate = gmp_refusal::refuse_if(divisor, is_bad_rate(settings, p, q), Refusal::Rate);
-    gmp_refusal::refuse_if(rate, q <= r, Refusal::State)
+    let state = gmp_refusal::refuse_if(rate, q <= r, Refusal::State);
+    let bad_patterns = gmp_settings::is_bad_patterns(settings);
+    gmp_refusal::refuse_if(state, bad_patterns, Refusal::Patterns)
 }
 
 // Number 3: q is 0 or above 65,535.

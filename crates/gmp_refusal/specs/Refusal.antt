@@ -1,9 +1,9 @@
--- The refusals of the mapper's calls (01, "Why a call is turned back"): "No." and "Word" of each.
--- Assumes nothing.
+-- The refusals of the mapper's calls (01, "Why a call is turned back"): "No." and "Word" of each;
+-- and 02, P11: "Refused: 14 "patterns"". Assumes nothing.
 use mathlib.Core.List.{List, [], _∷_}
 use Prim.Native.Nat.{ℕ}
 use Rattle.gmp_refusal.specs.declared.Refusal.{Refusal}
-use Rattle.gmp_refusal.specs.declared.Refusal.the-variants.{Grid, Window, Divisor, Rate, State, Count, Client, Frame, Space}
+use Rattle.gmp_refusal.specs.declared.Refusal.the-variants.{Grid, Window, Divisor, Rate, State, Count, Client, Frame, Space, Patterns}
 use Rattle.gmp_refusal.specs.declared.Verdict.{Verdict}
 use Rattle.gmp_refusal.specs.declared.Verdict.the-variants.{Accepted, Refused}
 
@@ -18,6 +18,20 @@ refusalNumber Count = 6
 refusalNumber Client = 7
 refusalNumber Frame = 8
 refusalNumber Space = 9
+refusalNumber Patterns = 14
+
+-- the place of each in the order of the numbers
+abbrev pub refusalPlace : Refusal → ℕ
+refusalPlace Grid = 1
+refusalPlace Window = 2
+refusalPlace Divisor = 3
+refusalPlace Rate = 4
+refusalPlace State = 5
+refusalPlace Count = 6
+refusalPlace Client = 7
+refusalPlace Frame = 8
+refusalPlace Space = 9
+refusalPlace Patterns = 10
 
 -- the paper's word of each refusal, in ASCII
 abbrev pub refusalName : Refusal → List ℕ
@@ -30,6 +44,7 @@ refusalName Count = 99 ∷ 111 ∷ 117 ∷ 110 ∷ 116 ∷ []
 refusalName Client = 99 ∷ 108 ∷ 105 ∷ 101 ∷ 110 ∷ 116 ∷ []
 refusalName Frame = 102 ∷ 114 ∷ 97 ∷ 109 ∷ 101 ∷ []
 refusalName Space = 115 ∷ 112 ∷ 97 ∷ 99 ∷ 101 ∷ []
+refusalName Patterns = 112 ∷ 97 ∷ 116 ∷ 116 ∷ 101 ∷ 114 ∷ 110 ∷ 115 ∷ []
 
 -- the number of a verdict; an accepted call has none of the paper's numbers, which begin at 1, and
 -- is 0 here

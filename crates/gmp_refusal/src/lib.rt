@@ -1,9 +1,10 @@
 // The refusals of the mapper's calls: their numbers and names, and a verdict made line by line.
 ghost use mathlib.Core.Path.{_≡_};
 ghost use Rattle.refusals.specs.Table.{reason, withLine};
-ghost use Rattle.gmp_refusal.specs.Refusal.{refusalNumber, verdictNumber};
+ghost use Rattle.gmp_refusal.specs.Refusal.{refusalNumber, refusalPlace, verdictNumber};
 
-// Why a call is turned back, in the order of the paper's numbers 1 to 9.
+// Why a call is turned back, in the order of the paper's numbers: 1 to 9, and 14. The numbers
+// between are those of other components.
 pub enum Refusal {
     Grid,
     Window,
@@ -14,6 +15,7 @@ pub enum Refusal {
     Client,
     Frame,
     Space,
+    Patterns,
 }
 
 // What a call's checks come to.
@@ -22,10 +24,11 @@ pub enum Verdict {
     Refused(Refusal),
 }
 
-// The names of the refusals in the order of their numbers, each in 7 bytes, and their lengths.
-pub const NAMES: [u8; 63] = *b"grid   window divisorrate   state  count  client frame  space  ";
+// The names of the refusals in the order of their numbers, each in 8 bytes, and their lengths.
+pub const NAMES: [u8; 80] =
+    *b"grid    window  divisor rate    state   count   client  frame   space   patterns";
 
-pub const NAME_LENGTHS: [usize; 9] = [4, 6, 7, 4, 5, 5, 6, 5, 5];
+pub const NAME_LENGTHS: [usize; 10] = [4, 6, 7, 4, 5, 5, 6, 5, 5, 8];
 
 // The verdict with one more line of the paper's table: a refusal so far stands, and an accepted
 // call is refused where the line's condition applies.
@@ -41,13 +44,25 @@ pub fn refuse_if(verdict: Verdict, applies: bool, refusal: Refusal) -> Verdict
     Verdict::Accepted
 }
 
-// The paper's number of a verdict, 0 for an accepted call.
+// The paper's number of a verdict, 0 for an accepted call. The number is worked from the place, so
+// that the library holds no table of numbers.
 pub fn refusal_number(verdict: Verdict) -> u32
     ensures { λ r. ⌜ r ≡ verdictNumber verdict ⌝ }
 {
     let Verdict::Refused(refusal) = verdict else {
         return 0;
     };
+    let place = refusal_place(refusal);
+    if place < 10 {
+        return place;
+    }
+    place + 4
+}
+
+// The place of a refusal in the order of their numbers, from 1.
+pub fn refusal_place(refusal: Refusal) -> u32
+    ensures { λ r. ⌜ r ≡ refusalPlace refusal ⌝ }
+{
     match refusal {
         Refusal::Grid => 1,
         Refusal::Window => 2,
@@ -58,5 +73,6 @@ pub fn refusal_number(verdict: Verdict) -> u32
         Refusal::Client => 7,
         Refusal::Frame => 8,
         Refusal::Space => 9,
+        Refusal::Patterns => 10,
     }
 }

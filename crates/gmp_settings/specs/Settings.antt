@@ -1,4 +1,5 @@
--- The settings: a grid K and a window lo to hi (01, "Settings and the frame"). Assumes nothing.
+-- The settings: a grid K and a window lo to hi (01, "Settings and the frame"), and the inversion
+-- patterns (02, P11). Assumes nothing.
 use mathlib.Core.Path.{_≡_}
 use mathlib.Core.Bool.{Bool, _||_}
 use mathlib.Core.List.{List, [], _∷_}
@@ -6,11 +7,18 @@ use Prim.Native.Nat.{ℕ, _<_, _≤_}
 use lib.Dec.{ltb, eqb}
 use Rattle.refusals.specs.Table.{Reason, reason}
 use Rattle.gmp_settings.specs.declared.Settings.{Settings}
+use Rattle.gmp_settings.specs.declared.FourPatterns.{FourPatterns}
+use Rattle.gmp_settings.specs.declared.Patterns.the-variants.{Standard, Given}
 use Rattle.gmp_settings.specs.Grid.{payloadBytes}
 
--- "The settings are a grid K .. and a window lo to hi": every record of settings is made here
+-- "The settings are a grid K .. and a window lo to hi": every record of settings is made here, with
+-- 01's patterns
 abbrev pub newSettings : ℕ → ℕ → ℕ → Settings
-newSettings k lo hi = record { k = k; lo = lo; hi = hi }
+newSettings k lo hi = record { k = k; lo = lo; hi = hi; patterns = Standard }
+
+-- "The settings may carry four patterns .. which take the place of document 01's" (02, P11)
+abbrev pub withPatterns : Settings → FourPatterns → Settings
+withPatterns s four = record { k = s .k; lo = s .lo; hi = s .hi; patterns = Given four }
 
 -- the most payload columns in a row: those of OPU0
 abbrev pub widestGrid : ℕ
@@ -28,7 +36,8 @@ badGrid s = eqb (s .k) 0 || ltb widestGrid (s .k)
 abbrev pub badWindow : Settings → Bool
 badWindow s = ltb (s .hi) (s .lo) || ltb (payloadBytes (s .k)) (s .hi)
 
--- the lines of the table that the settings alone decide
+-- the lines of the table that the settings alone decide and that every call begins with; number 14
+-- is the last of each call's own
 abbrev pub settingsReasons : Settings → List Reason
 settingsReasons s = reason 1 (badGrid s) ∷ reason 2 (badWindow s) ∷ []
 

@@ -1,21 +1,37 @@
-// The settings of a card: the grid of a frame and the window of counts.
+// The settings of a card: the grid of a frame, the window of counts and the inversion patterns.
 use gmp_refusal::Refusal;
 use gmp_refusal::Verdict;
 ghost use mathlib.Core.Path.{_≡_};
 ghost use Rattle.refusals.specs.Table.{lowest};
 ghost use Rattle.gmp_refusal.specs.Refusal.{verdictNumber};
 ghost use Rattle.gmp_settings.specs.Grid.{frameBytes};
-ghost use Rattle.gmp_settings.specs.Settings.{newSettings, opu0, badGrid, badWindow, settingsReasons, outside};
+ghost use Rattle.gmp_settings.specs.Settings.{newSettings, withPatterns, opu0, badGrid, badWindow, settingsReasons, outside};
+ghost use Rattle.gmp_settings.specs.Patterns.{breaksRule, exceeds, badPatterns};
 
-// The grid K, payload columns in a row, and the window of counts.
-#[repr(C)]
+// The grid K, payload columns in a row; the window of counts; and the inversion patterns.
 pub struct Settings {
     pub k: u32,
     pub lo: u32,
     pub hi: u32,
+    pub patterns: Patterns,
 }
 
-// The settings of this grid and window. Any numbers go: a call judges them.
+// The standard's patterns, or four that are given.
+pub enum Patterns {
+    Standard,
+    Given(FourPatterns),
+}
+
+// Patterns of 14 bits, C1 to C14, for the changes +1, -1, +2, -2.
+pub struct FourPatterns {
+    pub plus1: u32,
+    pub minus1: u32,
+    pub plus2: u32,
+    pub minus2: u32,
+}
+
+// The settings of this grid and window, with the standard's patterns. Any numbers go: a call judges
+// them.
 pub fn new_settings(k: u32, lo: u32, hi: u32) -> Settings
     ensures { λ r. ⌜ r ≡ newSettings k lo hi ⌝ }
 {
@@ -23,6 +39,19 @@ pub fn new_settings(k: u32, lo: u32, hi: u32) -> Settings
         k: k,
         lo: lo,
         hi: hi,
+        patterns: Patterns::Standard,
+    }
+}
+
+// The same settings with four patterns. Any numbers go here too.
+pub fn with_patterns(settings: Settings, four: FourPatterns) -> Settings
+    ensures { λ r. ⌜ r ≡ withPatterns settings four ⌝ }
+{
+    Settings {
+        k: settings.k,
+        lo: settings.lo,
+        hi: settings.hi,
+        patterns: Patterns::Given(four),
     }
 }
 
@@ -33,7 +62,7 @@ pub fn opu0() -> Settings
     new_settings(3808, 14405, 14410)
 }
 
-// Numbers 1 and 2: the checks that every call begins with.
+// Numbers 1 and 2: the checks that every call begins with. Number 14 comes after a call's own.
 pub fn judge(settings: Settings) -> Verdict
     ensures { λ r. ⌜ verdictNumber r ≡ lowest (settingsReasons settings) ⌝ }
 {
@@ -64,6 +93,48 @@ fn is_bad_window(settings: Settings) -> bool
         return true;
     }
     4 * (settings.k as usize) < hi as usize
+}
+
+// Number 14, the last check of a call: four given patterns break the rule or exceed 14 bits.
+pub fn is_bad_patterns(settings: Settings) -> bool
+    ensures { λ r. ⌜ r ≡ badPatterns settings ⌝ }
+{
+    let patterns = settings.patterns;
+    let Patterns::Given(four) = patterns else {
+        return false;
+    };
+    if breaks_rule(four) {
+        return true;
+    }
+    exceeds(four)
+}
+
+// The exclusive-or of the two plus patterns is not that of the two minus patterns, or is zero.
+fn breaks_rule(four: FourPatterns) -> bool
+    ensures { λ r. ⌜ r ≡ breaksRule four ⌝ }
+{
+    let plus = four.plus1 ^ four.plus2;
+    let minus = four.minus1 ^ four.minus2;
+    if plus != minus {
+        return true;
+    }
+    plus == 0
+}
+
+// A pattern exceeds 14 bits.
+fn exceeds(four: FourPatterns) -> bool
+    ensures { λ r. ⌜ r ≡ exceeds four ⌝ }
+{
+    if 16383 < four.plus1 {
+        return true;
+    }
+    if 16383 < four.minus1 {
+        return true;
+    }
+    if 16383 < four.plus2 {
+        return true;
+    }
+    16383 < four.minus2
 }
 
 // Whether a count lies outside the window.

@@ -14,6 +14,7 @@ use Rattle.gmp_settings.specs.Grid.{payloadBytes, frameBytes}
 use Rattle.refusals.specs.Table.{accepted, refused}
 use Rattle.gmp_refusal.specs.Refusal.{refusalNumber}
 use Rattle.gmp_settings.specs.Settings.{settingsReasons, Fit, outside}
+use Rattle.gmp_settings.specs.Patterns.{badPatterns}
 use Rattle.refusals.proofs.Laws.{none-applies}
 use Rattle.gmp_settings.proofs.Laws.{all-passed, settings-fit, inside-window}
 use Rattle.gmp_standing.specs.declared.Count.{Count}
@@ -38,6 +39,7 @@ pub record Accepted (s : Settings) (frameLength outLength : ℕ) : Type 0 where
   pub fit : Fit s
   pub frame : frameLength ≡ frameBytes (s .k)
   pub space : s .hi ≤ outLength
+  pub patterns : badPatterns s ≡ false
 
 pub accepted-knows : (s : Settings) (f o : ℕ) → sinkRefusal s f o ≡ 0 → Accepted s f o
 unfolding sinkRefusal
@@ -45,7 +47,8 @@ accepted-knows s f o e =
     let all = all-passed s (sinkReasons s f o) e in
     let eight = none-applies 8 (not (eqb f (frameBytes (s .k)))) _ (lit< tt) (all .1) in
     let nine = none-applies 9 (ltb o (s .hi)) _ (lit< tt) (eight .1) in
-    record { fit = settings-fit s (all .0); frame = eqb-true _ _ (not-false _ (eight .0)); space = ltb-false _ _ (nine .0) }
+    let fourteen = none-applies 14 (badPatterns s) _ (lit< tt) (nine .1) in
+    record { fit = settings-fit s (all .0); frame = eqb-true _ _ (not-false _ (eight .0)); space = ltb-false _ _ (nine .0); patterns = fourteen .0 }
 
 -- a count that counts is at most hi
 pub known-le : (s : Settings) (c : Count) (n : ℕ) → inWindow s c ≡ Known n → n ≤ s .hi

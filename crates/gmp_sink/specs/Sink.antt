@@ -12,6 +12,7 @@ use Rattle.gmp_settings.specs.Grid.{frameBytes}
 use Rattle.refusals.specs.Table.{Reason, reason, lowest, Answer, accepted, refused, answerBy}
 use Rattle.gmp_refusal.specs.Refusal.{refusalNumber}
 use Rattle.gmp_settings.specs.Settings.{settingsReasons}
+use Rattle.gmp_settings.specs.Patterns.{badPatterns}
 use Rattle.gmp_standing.specs.declared.Count.{Count}
 use Rattle.gmp_standing.specs.declared.Count.the-variants.{Known, Unknown}
 use Rattle.gmp_standing.specs.Standing.{Finding, finding, BADCHECK, standingMeaning}
@@ -32,9 +33,10 @@ abbrev pub newSink : SinkState
 newSink = record { count = Unknown; word = Nothing }
 
 -- A call's own lines: 8, "frame buffer not exactly 4K + 8 bytes"; 9, "output buffer shorter than
--- hi".
+-- hi"; and 14 (02, P11).
 abbrev pub sinkReasons : Settings → ℕ → ℕ → List Reason
-sinkReasons s frameLength outLength = reason 8 (not (eqb frameLength (frameBytes (s .k)))) ∷ reason 9 (ltb outLength (s .hi)) ∷ []
+sinkReasons s frameLength outLength =
+    reason 8 (not (eqb frameLength (frameBytes (s .k)))) ∷ reason 9 (ltb outLength (s .hi)) ∷ reason 14 (badPatterns s) ∷ []
 
 -- why a call is turned back, or 0
 unfoldable pub sinkRefusal : Settings → ℕ → ℕ → ℕ

@@ -86,12 +86,15 @@ fn read_control(settings: Settings, state: SinkState, control: Control) -> Follo
     }
 }
 
-// Numbers 1, 2, 8 and 9, for a frame and an output buffer of these lengths.
+// Numbers 1, 2, 8, 9 and 14, for a frame and an output buffer of these lengths.
 fn judge_call(settings: Settings, frame_length: usize, space: usize) -> Verdict
     ensures { λ v. ⌜ verdictNumber v ≡ sinkRefusal settings «frame_length» space ⌝ }
 {
     let fit = gmp_settings::judge(settings);
     let length = gmp_settings::frame_length(settings);
+    let too_short = space < settings.hi as usize;
+    let bad_patterns = gmp_settings::is_bad_patterns(settings);
     let frame = gmp_refusal::refuse_if(fit, frame_length != length, Refusal::Frame);
-    gmp_refusal::refuse_if(frame, space < settings.hi as usize, Refusal::Space)
+    let out = gmp_refusal::refuse_if(frame, too_short, Refusal::Space);
+    gmp_refusal::refuse_if(out, bad_patterns, Refusal::Patterns)
 }

@@ -12,6 +12,8 @@ use Rattle.gmp_crc8.proofs.Laws.{written-passes, remainder-lt}
 use Rattle.gmp_settings.specs.declared.Settings.{Settings}
 use Rattle.gmp_settings.specs.Grid.{payloadBytes, frameBytes}
 use Rattle.gmp_settings.specs.Settings.{settingsReasons, Fit, outside}
+use Rattle.gmp_settings.specs.Patterns.{badPatterns}
+use Rattle.refusals.specs.Table.{lowest}
 use Rattle.refusals.proofs.Laws.{none-applies, Judged}
 use Rattle.gmp_settings.proofs.Laws.{all-passed, settings-fit, inside-window}
 use Rattle.gmp_control.specs.Word.{wordBytes, wordBy}
@@ -21,7 +23,7 @@ use Rattle.gmp_control.proofs.Laws.{word-back, word-bytes}
 use Rattle.gmp_frame.specs.Frame.{controlOf, clientBytes}
 use Rattle.gmp_frame.proofs.Laws.{control-written, client-taken, length-frame}
 use Rattle.gmp_source.specs.declared.SourceState.{SourceState}
-use Rattle.gmp_source.specs.Source.{startReasons, startRefusal, sourceReasons, sourceRefusal, psi, controlBytes, written, nextState, sourceState, sourceFrame}
+use Rattle.gmp_source.specs.Source.{stateReasons, startReasons, startRefusal, sourceReasons, sourceRefusal, psi, controlBytes, written, nextState, sourceState, sourceFrame}
 
 -- an accepted call
 pub record Accepted (s : Settings) (z : SourceState) (next clientLength bufferLength : ℕ) : Type 0 where
@@ -30,6 +32,7 @@ pub record Accepted (s : Settings) (z : SourceState) (next clientLength bufferLe
   pub next-inside : outside s next ≡ false
   pub client : clientLength ≡ z .count
   pub buffer : bufferLength ≡ frameBytes (s .k)
+  pub patterns : badPatterns s ≡ false
 
 pub accepted-knows : (s : Settings) (z : SourceState) (next c b : ℕ) → sourceRefusal s z next c b ≡ 0 → Accepted s z next c b
 unfolding sourceRefusal
@@ -39,12 +42,14 @@ accepted-knows s z next c b e =
     let six = none-applies 6 (outside s next) _ (lit< tt) (five .1) in
     let seven = none-applies 7 (not (eqb c (z .count))) _ (lit< tt) (six .1) in
     let eight = none-applies 8 (not (eqb b (frameBytes (s .k)))) _ (lit< tt) (seven .1) in
+    let fourteen = none-applies 14 (badPatterns s) _ (lit< tt) (eight .1) in
     record {
       fit = settings-fit s (all .0);
       present-inside = five .0;
       next-inside = six .0;
       client = eqb-true _ _ (not-false _ (seven .0));
       buffer = eqb-true _ _ (not-false _ (eight .0));
+      patterns = fourteen .0;
     }
 
 -- its client bytes fit the payload
@@ -106,7 +111,6 @@ pub length-of-written : (s : Settings) (z : SourceState) (next : ℕ) (client : 
 unfolding written
 length-of-written s z next client = length-frame (s .k) client (controlBytes s (z .count) next) (psi z)
 
--- a judge of a call begins with the lines of a new source
-pub start-judged : (s : Settings) (first : ℕ) {answer : ℕ} → answer ≡ startRefusal s first → Judged answer (settingsReasons s ++ startReasons s first)
-unfolding startRefusal
-start-judged s first e = record { by = e; up = refl }
+-- the judges of a new source and of a call begin with the same lines
+pub state-judged : (s : Settings) (count : ℕ) {answer : ℕ} → answer ≡ lowest (stateReasons s count) → Judged answer (stateReasons s count)
+state-judged s count e = record { by = e; up = refl }

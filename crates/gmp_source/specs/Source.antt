@@ -11,6 +11,7 @@ use Rattle.gmp_settings.specs.Grid.{frameBytes}
 use Rattle.refusals.specs.Table.{Reason, reason, lowest, Answer, accepted, refused, answerBy}
 use Rattle.gmp_refusal.specs.Refusal.{refusalNumber, verdictNumber}
 use Rattle.gmp_settings.specs.Settings.{settingsReasons, outside}
+use Rattle.gmp_settings.specs.Patterns.{badPatterns}
 use Rattle.gmp_control.specs.declared.WordBytes.{WordBytes}
 use Rattle.gmp_control.specs.Word.{wordBytes}
 use Rattle.gmp_control.specs.Pattern.{tableOf}
@@ -22,10 +23,16 @@ use Rattle.gmp_source.specs.declared.SourceResult.{SourceResult}
 use Rattle.gmp_source.specs.declared.SourceStart.{SourceStart}
 use Rattle.gmp_source.specs.declared.SourceStart.the-variants.{New, Refused}
 
--- number 5, state: "source count outside the window", for a new source: its first count
+-- number 5, state: "source count outside the window", for a new source: its first count; and number
+-- 14 (02, P11)
 abbrev pub startReasons : Settings → ℕ → List Reason
-startReasons s first = reason 5 (outside s first) ∷ []
+startReasons s first = reason 5 (outside s first) ∷ reason 14 (badPatterns s) ∷ []
 
+-- the lines with which the judge of a new source and that of a call begin
+abbrev pub stateReasons : Settings → ℕ → List Reason
+stateReasons s count = settingsReasons s ++ (reason 5 (outside s count) ∷ [])
+
+-- why there is no new source, or 0
 unfoldable pub startRefusal : Settings → ℕ → ℕ
 startRefusal s first = lowest (settingsReasons s ++ startReasons s first)
 
@@ -44,13 +51,15 @@ startMeaning (New z) = accepted z
 startMeaning (Refused r) = refused (refusalNumber r)
 
 -- A call's own lines: 5, "source count outside the window"; 6, "next count outside the window"; 7,
--- "client bytes not exactly the present count"; 8, "frame buffer not exactly 4K + 8 bytes".
+-- "client bytes not exactly the present count"; 8, "frame buffer not exactly 4K + 8 bytes"; and 14
+-- (02, P11).
 abbrev pub sourceReasons : Settings → SourceState → ℕ → ℕ → ℕ → List Reason
 sourceReasons s z next clientLength bufferLength =
     reason 5 (outside s (z .count))
     ∷ reason 6 (outside s next)
     ∷ reason 7 (not (eqb clientLength (z .count)))
     ∷ reason 8 (not (eqb bufferLength (frameBytes (s .k))))
+    ∷ reason 14 (badPatterns s)
     ∷ []
 
 -- why a call is turned back, or 0

@@ -4,8 +4,9 @@ use gmp_refusal::Refusal;
 use gmp_refusal::Verdict;
 use gmp_settings::Settings;
 ghost use mathlib.Core.Path.{_≡_};
+ghost use Rattle.refusals.specs.Table.{lowest};
 ghost use Rattle.gmp_refusal.specs.Refusal.{verdictNumber};
-ghost use Rattle.gmp_source.specs.Source.{startRefusal, newSource, startMeaning};
+ghost use Rattle.gmp_source.specs.Source.{stateReasons, startRefusal, newSource, startMeaning};
 
 // The present count, the multiframe number and the payload type.
 #[repr(C)]
@@ -42,9 +43,18 @@ pub fn new_source(settings: Settings, first: u32, payload_type: u8) -> SourceSta
     SourceStart::Refused(refusal)
 }
 
+// Numbers 1, 2, 5 and 14, for the first count of a new source.
+fn judge_start(settings: Settings, first: u32) -> Verdict
+    ensures { λ v. ⌜ verdictNumber v ≡ startRefusal settings first ⌝ }
+{
+    let state = judge_state(settings, first);
+    let bad_patterns = gmp_settings::is_bad_patterns(settings);
+    gmp_refusal::refuse_if(state, bad_patterns, Refusal::Patterns)
+}
+
 // Numbers 1, 2 and 5, for the first count of a new source or the present one of a call.
-pub fn judge_start(settings: Settings, count: u32) -> Verdict
-    ensures { λ v. ⌜ verdictNumber v ≡ startRefusal settings count ⌝ }
+pub fn judge_state(settings: Settings, count: u32) -> Verdict
+    ensures { λ v. ⌜ verdictNumber v ≡ lowest (stateReasons settings count) ⌝ }
 {
     let fit = gmp_settings::judge(settings);
     let is_outside = gmp_settings::is_outside(settings, count);

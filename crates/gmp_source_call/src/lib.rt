@@ -41,7 +41,7 @@ pub fn source_call(
     }
 }
 
-// Numbers 1, 2, 5, 6, 7 and 8, for so many client bytes and a frame buffer of this length.
+// Numbers 1, 2, 5, 6, 7, 8 and 14, for so many client bytes and a frame buffer of this length.
 fn judge_call(
     settings: Settings,
     state: SourceState,
@@ -52,12 +52,14 @@ fn judge_call(
     ensures { λ v. ⌜ verdictNumber v ≡ sourceRefusal settings state next «client_length» «frame_length» ⌝ }
 {
     let present = state.count;
-    let start = gmp_source::judge_start(settings, present);
+    let state = gmp_source::judge_state(settings, present);
     let is_outside = gmp_settings::is_outside(settings, next);
-    let count = gmp_refusal::refuse_if(start, is_outside, Refusal::Count);
+    let count = gmp_refusal::refuse_if(state, is_outside, Refusal::Count);
     let client = gmp_refusal::refuse_if(count, client_length != present as usize, Refusal::Client);
     let length = gmp_settings::frame_length(settings);
-    gmp_refusal::refuse_if(client, frame_length != length, Refusal::Frame)
+    let frame = gmp_refusal::refuse_if(client, frame_length != length, Refusal::Frame);
+    let bad_patterns = gmp_settings::is_bad_patterns(settings);
+    gmp_refusal::refuse_if(frame, bad_patterns, Refusal::Patterns)
 }
 
 // JC1 to JC3 of the word that announces the next count.

@@ -234,9 +234,9 @@ fn show_refusal(refusal: Refusal) {
 
 // Writes the name of a refusal to standard error.
 fn show_name(refusal: Refusal) {
-    let place = gmp_refusal::refusal_number(Verdict::Refused(refusal)) as usize - 1;
+    let place = gmp_refusal::refusal_place(refusal) as usize - 1;
     let names: &[u8] = &NAMES;
-    let start = 7 * place;
+    let start = 8 * place;
     let end = start + NAME_LENGTHS[place];
     io::write_all(STDERR_FILENO, &names[start..end]);
 }

@@ -2,28 +2,44 @@
 //!
 //! It is written from the scope paper and the change requests that have come (02), in the paper's
 //! own order and with no thought of speed: every place is tested by n × C mod S < C, the check is a
-//! long division bit by bit, and the sink is the paper's rules 1 to 3 one after the other. Where
-//! the paper is silent it goes by odu0.h: a multiframe number above 255 is taken modulo 256. Of a
-//! remembered word only the 16 bits that a word has are looked at.
+//! long division bit by bit, the rule of given patterns is asked at each bit, and the sink is the
+//! paper's rules 1 to 3 one after the other. Where the paper is silent it goes by odu0.h: a
+//! multiframe number above 255 is taken modulo 256. Of a remembered word only the 16 bits that a
+//! word has are looked at.
 
 mod random;
 
 pub use random::Random;
 use std::ops::RangeInclusive;
 
-/// The settings: K payload columns in a row, and the window of counts.
+/// Each change that has a pattern, and its pattern, C1 to C14.
+pub type Patterns = [(i32, u32); 4];
+
+/// The patterns of the paper's table.
+pub const STANDARD: Patterns =
+    [(1, 0b10101010101010), (-1, 0b01010101010101), (2, 0b01100110011001), (-2, 0b10011001100110)];
+
+/// The settings: K payload columns in a row, the window of counts, and the patterns that take the
+/// place of the paper's, if there are some (02, P11).
 #[derive(Clone, Copy, Debug, PartialEq, Eq)]
 pub struct Settings {
     pub k: u32,
     pub lo: u32,
     pub hi: u32,
+    pub patterns: Option<Patterns>,
 }
 
 impl Settings {
     pub const OPU0: Settings = Settings::new(3808, 14405, 14410);
 
     pub const fn new(k: u32, lo: u32, hi: u32) -> Settings {
-        Settings { k, lo, hi }
+        Settings { k, lo, hi, patterns: None }
+    }
+
+    /// The same with four patterns, in the order of P11: for +1, −1, +2, −2.
+    pub const fn with_patterns(self, four: [u32; 4]) -> Settings {
+        let patterns = [(1, four[0]), (-1, four[1]), (2, four[2]), (-2, four[3])];
+        Settings { patterns: Some(patterns), ..self }
     }
 
     /// S: how many payload bytes a frame has.
@@ -47,6 +63,21 @@ impl Settings {
 
     fn window_is_wrong(self) -> bool {
         self.lo > self.hi || u64::from(self.hi) > self.payload()
+    }
+
+    /// Four patterns that break P11's rule or exceed 14 bits. The rule, at each bit: the two plus
+    /// patterns differ there exactly if the two minus patterns do; and they differ somewhere.
+    fn patterns_are_wrong(self) -> bool {
+        if self.patterns.is_none() {
+            return false;
+        }
+        let has = |change: i32, bit: u32| pattern(self, change) & 1 << bit != 0;
+        let plus_differ = |bit: u32| has(1, bit) != has(2, bit);
+        let minus_differ = |bit: u32| has(-1, bit) != has(-2, bit);
+        let apart = (0..32).any(|bit| plus_differ(bit) != minus_differ(bit));
+        let nowhere = !(0..32).any(plus_differ);
+        let too_long = (14..32).any(|bit| [1, -1, 2, -2].iter().any(|change| has(*change, bit)));
+        apart || nowhere || too_long
     }
 }
 
@@ -78,30 +109,28 @@ pub fn check(word: u32) -> u32 {
     rest
 }
 
-/// The pattern of a change, C1 to C14.
-pub fn pattern(change: i32) -> u32 {
-    match change {
-        0 => 0b00000000000000,
-        1 => 0b10101010101010,
-        -1 => 0b01010101010101,
-        2 => 0b01100110011001,
-        -2 => 0b10011001100110,
-        _ => panic!("{change} has no pattern"),
+/// The pattern of a change other than 0: that of the settings where they carry patterns.
+pub fn pattern(settings: Settings, change: i32) -> u32 {
+    for (of, pattern) in settings.patterns.unwrap_or(STANDARD) {
+        if of == change {
+            return pattern;
+        }
     }
+    panic!("{change} has no pattern");
 }
 
-/// A count moved by a change, modulo 16,384.
+/// A count moved by a change, modulo 16,384, which divides 2^32.
 fn moved(count: u32, change: i32) -> u32 {
-    (count as i32 + change).rem_euclid(16384) as u32
+    count.wrapping_add_signed(change) % 16384
 }
 
 /// The 16 bits C1 to C14, II, DI which say that after the count "old" comes the count "new".
-pub fn word(old: u32, new: u32) -> u32 {
+pub fn word(settings: Settings, old: u32, new: u32) -> u32 {
     let change = i64::from(new) - i64::from(old);
     let (bits, ii, di) = match change {
         0 => (old, 0, 0),
-        1 | 2 => (old ^ pattern(change as i32), 1, 0),
-        -1 | -2 => (old ^ pattern(change as i32), 0, 1),
+        1 | 2 => (old ^ pattern(settings, change as i32), 1, 0),
+        -1 | -2 => (old ^ pattern(settings, change as i32), 0, 1),
         _ => (new, 1, 1),
     };
     bits << 2 | ii << 1 | di
@@ -129,9 +158,9 @@ fn changes(word: u32) -> [i32; 2] {
 }
 
 /// Where a word leads that continues a count by a pattern of its sign.
-fn continued(count: u32, word: u32) -> Option<u32> {
+fn continued(settings: Settings, count: u32, word: u32) -> Option<u32> {
     for change in changes(word) {
-        if c_bits(word) ^ count == pattern(change) {
+        if c_bits(word) ^ count == pattern(settings, change) {
             return Some(moved(count, change));
         }
     }
@@ -139,8 +168,8 @@ fn continued(count: u32, word: u32) -> Option<u32> {
 }
 
 /// The two counts that a remembered word may have announced.
-pub fn possible(word: u32) -> [u32; 2] {
-    changes(word).map(|change| moved(c_bits(word) ^ pattern(change), change))
+pub fn possible(settings: Settings, word: u32) -> [u32; 2] {
+    changes(word).map(|change| moved(c_bits(word) ^ pattern(settings, change), change))
 }
 
 /// The refusal with the lowest number, of those that apply.
@@ -171,6 +200,7 @@ impl Source {
             (1, settings.grid_is_wrong()),
             (2, settings.window_is_wrong()),
             (5, !settings.holds(first)),
+            (14, settings.patterns_are_wrong()),
         ])
     }
 
@@ -188,6 +218,7 @@ impl Source {
             (6, !settings.holds(next)),
             (7, client.len() as u64 != u64::from(self.count)),
             (8, frame.len() as u64 != settings.frame()),
+            (14, settings.patterns_are_wrong()),
         ])
     }
 
@@ -201,7 +232,7 @@ impl Source {
         turn_back(self.refusals(settings, next, client, frame))?;
         frame.fill(0);
         let row = settings.k as usize + 2;
-        let announced = word(self.count, next);
+        let announced = word(settings, self.count, next);
         frame[1] = (announced >> 8) as u8;
         frame[row + 1] = announced as u8;
         frame[2 * row + 1] = check(announced) as u8;
@@ -244,6 +275,7 @@ impl Keeper {
             (3, q == 0 || q > 65535),
             (4, whole.is_some_and(|whole| whole < settings.lo) || u64::from(p) > most),
             (5, self.remainder >= q),
+            (14, settings.patterns_are_wrong()),
         ])
     }
 
@@ -327,6 +359,7 @@ impl Sink {
             (2, settings.window_is_wrong()),
             (8, frame.len() as u64 != settings.frame()),
             (9, (out.len() as u64) < u64::from(settings.hi)),
+            (14, settings.patterns_are_wrong()),
         ])
     }
 
@@ -367,11 +400,11 @@ impl Sink {
             standing = Standing::Read(c_bits(word));
             self.word = None;
         } else {
-            let tracked = known.and_then(|count| continued(count, word));
+            let tracked = known.and_then(|count| continued(settings, count, word));
             let mut paired = None;
             if let Some(before) = before {
-                for count in possible(before) {
-                    paired = paired.or(continued(count, word));
+                for count in possible(settings, before) {
+                    paired = paired.or(continued(settings, count, word));
                 }
             }
             standing = match (tracked, paired) {
@@ -397,8 +430,11 @@ impl Sink {
 mod tests {
     use super::*;
 
-    fn control(old: u32, next: u32) -> [u8; 3] {
-        let word = word(old, next);
+    /// Patterns with which the two possible counts of a word may be one.
+    const ONE: Settings = Settings::OPU0.with_patterns([0, 0, 1, 1]);
+
+    fn control(settings: Settings, old: u32, next: u32) -> [u8; 3] {
+        let word = word(settings, old, next);
         [(word >> 8) as u8, word as u8, check(word) as u8]
     }
 
@@ -417,12 +453,66 @@ mod tests {
 
     #[test]
     fn worked_words() {
+        let control = |old, next| control(Settings::OPU0, old, next);
         assert_eq!(control(14407, 14407), [0xE1, 0x1C, 0x6E]);
         assert_eq!(control(14407, 14408), [0x4B, 0xB6, 0x38]);
         assert_eq!(control(14407, 14409), [0x87, 0x7A, 0xA7]);
         assert_eq!(control(14407, 14406), [0xB4, 0x49, 0x45]);
         assert_eq!(control(14407, 14405), [0x78, 0x85, 0xDA]);
         assert_eq!(control(14405, 14409), [0xE1, 0x27, 0x6C]);
+    }
+
+    /// With the table 0, 0, 1, 1 both possible counts of the first word are 14408.
+    #[test]
+    fn worked_patterns() {
+        let (first, then) = ([0xE1, 0x1E, 0x74], [0xE1, 0x22, 0x55]);
+        assert_eq!([control(ONE, 14407, 14408), control(ONE, 14408, 14409)], [first, then]);
+        assert_eq!(possible(ONE, 0xE11E), [14408, 14408]);
+        let mut sink = Sink::new();
+        assert_eq!(standing(&mut sink, ONE, first), Standing::Waiting);
+        assert_eq!(standing(&mut sink, ONE, then), Standing::Paired(14409));
+        // To a sink with the paper's patterns the second word is no later one.
+        let mut sink = Sink::new();
+        assert_eq!(standing(&mut sink, Settings::OPU0, first), Standing::Waiting);
+        assert_eq!(standing(&mut sink, Settings::OPU0, then), Standing::Waiting);
+    }
+
+    /// Every table of four patterns of 2 bits, by the exclusive-ors of P11; then bits above the
+    /// 14th, which break nothing but the length where they stand in an even number of patterns.
+    #[test]
+    fn worked_rule() {
+        let wrong = |four: [u32; 4]| Settings::OPU0.with_patterns(four).patterns_are_wrong();
+        for number in 0..256 {
+            let four @ [plus1, minus1, plus2, minus2] = [0, 2, 4, 6].map(|at| number >> at & 3);
+            let rule = plus1 ^ plus2 == minus1 ^ minus2 && plus1 ^ plus2 != 0;
+            assert_eq!(wrong(four), !rule, "{four:?}");
+        }
+        assert!(!wrong(STANDARD.map(|(_, pattern)| pattern)));
+        assert!(!wrong([0x3FFF, 0, 0, 0x3FFF]));
+        for bit in 14..32 {
+            for places in 1..16 {
+                let at = |place: u32| u32::from(places >> place & 1 == 1) << bit;
+                assert!(wrong([at(0), 1 | at(1), 1 | at(2), at(3)]), "{bit} {places:04b}");
+            }
+        }
+        assert!(!Settings::OPU0.patterns_are_wrong());
+    }
+
+    /// Number 14 is the last: each other number that applies comes before it.
+    #[test]
+    fn wrong_patterns_come_last() {
+        let wrong = Settings::OPU0.with_patterns([0, 0, 1, 0]);
+        let (frame, client) = (vec![0; 15240], vec![0; 14407]);
+        let source = Source { count: 14407, multiframe: 0, payload_type: 0 };
+        let keeper = Keeper { remainder: 0 };
+        assert_eq!(Source::new_refusals(wrong, 14407), [14]);
+        assert_eq!(Source::new_refusals(wrong, 14411), [5, 14]);
+        assert_eq!(source.refusals(wrong, 14407, &client, &frame), [14]);
+        assert_eq!(source.refusals(wrong, 14411, &client, &frame), [6, 14]);
+        assert_eq!(keeper.refusals(wrong, 14407, 1), [14]);
+        assert_eq!(keeper.refusals(wrong, 14411, 1), [4, 14]);
+        assert_eq!(Sink::new().refusals(wrong, &frame, &[0; 14410]), [14]);
+        assert_eq!(Sink::new().refusals(wrong, &frame, &[0; 14409]), [9, 14]);
     }
 
     #[test]
@@ -478,28 +568,51 @@ mod tests {
         assert_eq!([0, 1, 2, 3].map(|n| nearest(n, 1)), [0, 1, 2, 3]);
     }
 
-    /// The paper says "the one which this word continues": no word continues both possible counts
-    /// of another.
+    /// The four words that continue a count: by each pattern of each sign.
+    fn continuing(settings: Settings, count: u32) -> [u32; 4] {
+        let word = |change| (count ^ pattern(settings, change)) << 2;
+        [word(1) | 2, word(2) | 2, word(-1) | 1, word(-2) | 1]
+    }
+
+    /// The paper says "the one which this word continues": with the paper's patterns no word
+    /// continues both possible counts of another.
     #[test]
     fn a_pair_of_words_leads_to_one_count() {
         let mut both_end_in_11 = 0;
-        for before in 0..=0xFFFF {
-            if ii(before) == di(before) {
-                continue;
-            }
-            let [one, two] = possible(before);
+        for before in (0..=0xFFFF).filter(|word| ii(*word) != di(*word)) {
+            let [one, two] = possible(Settings::OPU0, before);
             assert_ne!(one, two);
             both_end_in_11 += u32::from(one & 3 == 3 && two & 3 == 3);
-            for sign in [1, 2] {
-                let words =
-                    |count: u32| changes(sign).map(|change| (count ^ pattern(change)) << 2 | sign);
-                for word in words(one) {
-                    assert!(continued(one, word).is_some());
-                    assert!(!words(two).contains(&word), "{before:04X} {word:04X}");
-                }
+            for word in continuing(Settings::OPU0, one) {
+                assert!(continued(Settings::OPU0, one, word).is_some());
+                assert_eq!(continued(Settings::OPU0, two, word), None, "{before:04X} {word:04X}");
             }
         }
         assert!(both_end_in_11 > 0);
+    }
+
+    /// With any patterns that keep P11's rule a word may continue both, but only to one count.
+    #[test]
+    fn a_pair_of_words_leads_to_one_count_by_the_rule() {
+        let mut random = Random::new(11);
+        let mut both = 0;
+        for _ in 0..100_000 {
+            // Patterns of a few low bits are those that bring two possible counts together.
+            let bits = random.of(&[0x1, 0x3, 0x7, 0xF, 0xFF, 0x3FFF]);
+            let [plus, minus, differ, before] = [(); 4].map(|()| random.u32());
+            let (plus, minus, differ) = (plus & bits, minus & bits, (differ & bits).max(1));
+            let settings = ONE.with_patterns([plus, minus, plus ^ differ, minus ^ differ]);
+            assert!(!settings.patterns_are_wrong(), "{settings:?}");
+            let before = before & 0xFFFC | random.from_to(1, 2);
+            let [one, two] = possible(settings, before);
+            for word in continuing(settings, one) {
+                let lead = [one, two].map(|count| continued(settings, count, word));
+                assert!(lead[0].is_some());
+                assert!(lead[1].is_none() || lead[1] == lead[0], "{settings:?} {before:04X}");
+                both += u32::from(lead[1].is_some());
+            }
+        }
+        assert!(both > 10_000, "{both}");
     }
 
     /// Four wrong bits may pass the check; one, two or three do not.

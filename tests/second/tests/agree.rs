@@ -14,6 +14,8 @@ mod fields;
 mod given;
 #[path = "agree/nearest.rs"]
 mod nearest;
+#[path = "agree/patterns.rs"]
+mod patterns;
 #[path = "agree/refusals.rs"]
 mod refusals;
 #[path = "agree/runs.rs"]

@@ -1,7 +1,7 @@
-//! The worked frames of the scope paper and the worked counts of 02's P7, run against the library:
-//! those that are proved as well, and the others.
+//! The worked frames of the scope paper, the worked counts of 02's P7 and worked cases of its P11,
+//! run against the library: those that are proved as well, and the others.
 
-use odu0::{Keeper, Refusal, Settings, Sink, Source, Standing, Taken, Tally};
+use odu0::{Keeper, Patterns, Refusal, Settings, Sink, Source, Standing, Taken, Tally};
 
 const OPU0: Settings = Settings::OPU0;
 const WIDE: Settings = Settings::new(3808, 0, 15232);
@@ -13,13 +13,18 @@ fn control_bytes(settings: Settings) -> [usize; 3] {
     [1, row + 1, 2 * row + 1]
 }
 
+/// OPU0 with four patterns, for +1, −1, +2, −2.
+fn opu0_with([plus1, minus1, plus2, minus2]: [u32; 4]) -> Settings {
+    OPU0.with_patterns(Patterns { plus1, minus1, plus2, minus2 })
+}
+
 /// The control bytes that a source at the count "old" writes for the next count.
-fn announced(old: u32, next: u32) -> [u8; 3] {
+fn announced(settings: Settings, old: u32, next: u32) -> [u8; 3] {
     let mut source = Source { count: old, multiframe: 0, payload_type: 0 };
     let mut frame = vec![0xEE; 15240];
-    source.call(OPU0, next, &vec![0x55; old as usize], &mut frame).unwrap();
+    source.call(settings, next, &vec![0x55; old as usize], &mut frame).unwrap();
     assert_eq!(source, Source { count: next, multiframe: 1, payload_type: 0 });
-    control_bytes(OPU0).map(|at| frame[at])
+    control_bytes(settings).map(|at| frame[at])
 }
 
 /// What a sink says of a frame with these control bytes.
@@ -34,12 +39,12 @@ fn said(sink: &mut Sink, settings: Settings, control: [u8; 3]) -> Standing {
 
 #[test]
 fn words_of_a_source() {
-    assert_eq!(announced(14407, 14407), [0xE1, 0x1C, 0x6E]);
-    assert_eq!(announced(14407, 14408), [0x4B, 0xB6, 0x38]);
-    assert_eq!(announced(14407, 14409), [0x87, 0x7A, 0xA7]);
-    assert_eq!(announced(14407, 14406), [0xB4, 0x49, 0x45]);
-    assert_eq!(announced(14407, 14405), [0x78, 0x85, 0xDA]);
-    assert_eq!(announced(14405, 14409), [0xE1, 0x27, 0x6C]);
+    assert_eq!(announced(OPU0, 14407, 14407), [0xE1, 0x1C, 0x6E]);
+    assert_eq!(announced(OPU0, 14407, 14408), [0x4B, 0xB6, 0x38]);
+    assert_eq!(announced(OPU0, 14407, 14409), [0x87, 0x7A, 0xA7]);
+    assert_eq!(announced(OPU0, 14407, 14406), [0xB4, 0x49, 0x45]);
+    assert_eq!(announced(OPU0, 14407, 14405), [0x78, 0x85, 0xDA]);
+    assert_eq!(announced(OPU0, 14405, 14409), [0xE1, 0x27, 0x6C]);
 }
 
 #[test]
@@ -97,6 +102,101 @@ fn places_of_eight() {
         assert!(out[places.len()..].iter().all(|byte| *byte == 0xEE));
         assert_eq!(tally, Tally { frames: 1, bad: 0, bytes: count });
     }
+}
+
+/// The table 0, 0, 1, 1: a word of +1 and one of +2 may announce the same count.
+#[test]
+fn a_new_sink_pairs_two_words_of_given_patterns() {
+    let settings = opu0_with([0, 0, 1, 1]);
+    assert_eq!(announced(settings, 14407, 14408), [0xE1, 0x1E, 0x74]);
+    assert_eq!(announced(settings, 14408, 14409), [0xE1, 0x22, 0x55]);
+    let mut sink = Sink::new();
+    assert_eq!(said(&mut sink, settings, [0xE1, 0x1E, 0x74]), Standing::Waiting);
+    assert_eq!(said(&mut sink, settings, [0xE1, 0x22, 0x55]), Standing::Paired(14409));
+    assert_eq!(sink, Sink { count: Some(14409), word: Some(0xE122) });
+}
+
+/// Given patterns that are those of the standard change nothing.
+#[test]
+fn the_standards_patterns_as_given_ones() {
+    let four = [0b10101010101010, 0b01010101010101, 0b01100110011001, 0b10011001100110];
+    for (old, next) in
+        (OPU0.lo..=OPU0.hi).flat_map(|old| (OPU0.lo..=OPU0.hi).map(move |next| (old, next)))
+    {
+        let control = announced(OPU0, old, next);
+        assert_eq!(announced(opu0_with(four), old, next), control);
+        let mut sink = Sink { count: Some(old), word: None };
+        assert_eq!(said(&mut sink, opu0_with(four), control).count(), Some(next));
+    }
+}
+
+/// What each call says of these settings on OPU0, where all else is right: the refusals of a new
+/// source, a source call, a keeper call and a sink call.
+fn refused(settings: Settings) -> [Option<u32>; 4] {
+    let mut source = Source { count: 14407, multiframe: 0, payload_type: 0 };
+    let (client, mut frame, mut out) = (vec![0; 14407], vec![0; 15240], vec![0; 14410]);
+    let mut tally = Tally::default();
+    [
+        Source::new(settings, 14407, 0).err(),
+        source.call(settings, 14407, &client, &mut frame).err(),
+        Keeper::new(1296).call(settings, 18671875, 1296).err(),
+        Sink::new().call(settings, &frame, &mut out, &mut tally).err(),
+    ]
+    .map(|refusal| refusal.map(Refusal::number))
+}
+
+/// A pattern has 14 bits; the two of plus differ where the two of minus do, and somewhere. Every
+/// call that is given settings asks this.
+#[test]
+fn the_rule_of_given_patterns() {
+    let most = 16383;
+    for kept in [[0, 0, 1, 1], [most, 0, 0, most], [0, most, most, 0], [5, 5, 6, 6], [5, 6, 6, 5]] {
+        assert_eq!(refused(opu0_with(kept)), [None; 4], "{kept:?}");
+    }
+    let broken = [
+        // One bit turned over in each of the four.
+        [1, 0, 3, 3],
+        [0, 1, 3, 3],
+        [0, 0, 2, 3],
+        [0, 0, 3, 2],
+        // No difference.
+        [0, 0, 0, 0],
+        [1, 2, 1, 2],
+        // More than 14 bits: in one pattern, in two, in all.
+        [most + 1, 0, 0, most],
+        [most + 1, most + 1, 0, 0],
+        [most + 1, 0, most + 2, 1],
+        [1 << 31, 1 << 31, 1 << 31 | 1, 1 << 31 | 1],
+    ];
+    for broken in broken {
+        assert_eq!(refused(opu0_with(broken)), [Some(14); 4], "{broken:?}");
+    }
+}
+
+/// Number 14 is the last of every call: beside another fault the other one is the answer.
+#[test]
+fn broken_patterns_are_judged_last() {
+    let broken = opu0_with([0, 0, 1, 0]);
+    assert_eq!(refused(broken), [Some(14); 4]);
+    let mut source = Source { count: 14407, multiframe: 0, payload_type: 0 };
+    let (mut frame, mut out, mut tally) = (vec![0xEE; 15240], vec![0xEE; 14409], Tally::default());
+    let mut sink = Sink::new();
+    let refusal = sink.call(broken, &frame, &mut out, &mut tally).unwrap_err();
+    assert_eq!((refusal.number(), refusal.name()), (9, "space"));
+    let refusal = source.call(broken, 14411, &[0; 14407], &mut frame).unwrap_err();
+    assert_eq!((refusal.number(), refusal.name()), (6, "count"));
+    let refusal = Keeper::new(1296).call(broken, 18671875 + 10000, 1296).unwrap_err();
+    assert_eq!((refusal.number(), refusal.name()), (4, "rate"));
+    assert_eq!(Source::new(broken, 14411, 0).unwrap_err().number(), 5);
+
+    // Alone it is the answer, and nothing is changed.
+    out.push(0xEE);
+    let refusal = sink.call(broken, &frame, &mut out, &mut tally).unwrap_err();
+    assert_eq!((refusal, refusal.number(), refusal.name()), (Refusal::Patterns, 14, "patterns"));
+    assert_eq!(source.call(broken, 14407, &[0; 14407], &mut frame), Err(Refusal::Patterns));
+    assert_eq!(source, Source { count: 14407, multiframe: 0, payload_type: 0 });
+    assert_eq!((sink, tally), (Sink::new(), Tally::default()));
+    assert!(frame.iter().chain(&out).all(|byte| *byte == 0xEE));
 }
 
 #[test]
@@ -202,9 +302,9 @@ fn frames_of_sinkshow() {
 #[test]
 fn names_and_numbers() {
     let names = ["grid", "window", "divisor", "rate", "state", "count", "client", "frame", "space"];
-    for ((refusal, name), number) in Refusal::ALL.into_iter().zip(names).zip(1..) {
-        assert_eq!((refusal.number(), refusal.name()), (number, name));
-    }
+    let numbered: Vec<_> = (1..).zip(names).chain([(14, "patterns")]).collect();
+    let all = Refusal::ALL.map(|refusal| (refusal.number(), refusal.name()));
+    assert_eq!(all[..], numbered);
     let standings = [Standing::Read(1), Standing::Tracked(2), Standing::Paired(3)];
     assert_eq!(standings.map(Standing::name), ["READ", "TRACKED", "PAIRED"]);
     assert_eq!(standings.map(Standing::count), [Some(1), Some(2), Some(3)]);

@@ -1,6 +1,6 @@
 -- `c_sink::odu0_sink_call` meets its contract: what the call with the tally promises, in numbers.
 -- Assumes nothing.
-use mathlib.Core.Path.{_≡_, _∙_, ap}
+use mathlib.Core.Path.{_≡_, _∙_, ap, subst, subst⁻¹}
 use mathlib.Core.List.{List}
 use Prim.Native.Nat.{ℕ}
 use lib.ListN.{length}
@@ -8,32 +8,54 @@ use borrow.Author.Needs.{needs}
 use Rattle.gmp_settings.specs.declared.Settings.{Settings}
 use Rattle.refusals.specs.Table.{Answer}
 use Rattle.gmp_standing.specs.Standing.{Finding}
+use Rattle.card_tally.specs.declared.Tally.{Tally}
 use Rattle.gmp_sink.specs.declared.SinkState.{SinkState}
 use Rattle.gmp_sink.specs.declared.SinkResult.{SinkResult}
-use Rattle.gmp_sink.specs.Sink.{answerMeaning, sinkAnswer, sinkHanded, sinkOut, SinkPromise}
-use Rattle.card_sink.specs.Card.{tallyAfter}
+use Rattle.gmp_sink.specs.Sink.{answerMeaning, sinkAnswer, sinkHanded}
+use Rattle.card_sink.specs.Card.{CallPromise}
+use Rattle.c_settings.specs.Numbers.{settingsFrom}
 use Rattle.c_sink.specs.declared.SinkNumbers.{SinkNumbers}
-use Rattle.c_sink.specs.Numbers.{stateFrom, sinkReplyBy, sinkReply, tallyFrom, tallyNumbers}
+use Rattle.c_sink.specs.declared.SinkReply.{SinkReply}
+use Rattle.c_sink.specs.Numbers.{stateFrom, sinkReplyBy, tallyFrom, tallyNumbers, SinkCallPromise}
 use Rattle.c_sink.proofs.odu0_sink_call.Statement.{statement}
 use Rattle.c_sink.proofs.odu0_sink_call.Tie as tie
 
--- the reply of a call that keeps its promise, for the state z that the given one equals
-sink-meaning : (s : Settings) (given : SinkNumbers) (x z : SinkState) (frame out : List ℕ) (r : SinkResult) (after : List ℕ) → x ≡ z → SinkPromise s x frame out r after
-    → sinkReplyBy given (answerMeaning (r .answer)) (r .handed) (r .state) ≡ sinkReply s given z frame out
-sink-meaning s given x z frame out r after e p =
-    ap (λ (a : Answer Finding). sinkReplyBy given a (r .handed) (r .state)) (p .answer)
-    ∙ ap (λ (n : ℕ). sinkReplyBy given (sinkAnswer s x frame out) n (r .state)) (p .handed-bytes)
-    ∙ ap (sinkReplyBy given (sinkAnswer s x frame out) (length (sinkHanded s x frame out))) (p .state)
-    ∙ ap (λ (y : SinkState). sinkReply s given y frame out) e
+-- a call that keeps its promise keeps this one, in numbers
+in-numbers : (s : Settings) (given : SinkNumbers) (frame out tally : List ℕ) (r : SinkResult) (out-after : List ℕ) (y : Tally)
+    → CallPromise s (stateFrom given) frame out (tallyFrom tally) r out-after y
+    → SinkCallPromise s given frame out tally (sinkReplyBy given (answerMeaning (r .answer)) (r .handed) (r .state)) out-after (tallyNumbers y)
+in-numbers s given frame out tally r out-after y p =
+    let z = stateFrom given in
+    record {
+      reply =
+          ap (λ (a : Answer Finding). sinkReplyBy given a (r .handed) (r .state)) (p .sink .answer)
+          ∙ ap (λ (n : ℕ). sinkReplyBy given (sinkAnswer s z frame out) n (r .state)) (p .sink .handed-bytes)
+          ∙ ap (sinkReplyBy given (sinkAnswer s z frame out) (length (sinkHanded s z frame out))) (p .sink .state);
+      out-buffer = p .sink .out-buffer;
+      tally-numbers = ap tallyNumbers (p .tally);
+    }
 
-array-read-t14 : tie.Need-array-read-t14
-array-read-t14 c = search needs
+-- the same of a call with the settings u and the state x that the numbers stand for
+of-numbers : (u s : Settings) (x : SinkState) (given : SinkNumbers) (frame out tally : List ℕ) (r : SinkResult) (out-after : List ℕ) (y : Tally) (w : SinkReply)
+    → u ≡ s → x ≡ stateFrom given → w ≡ sinkReplyBy given (answerMeaning (r .answer)) (r .handed) (r .state)
+    → CallPromise u x frame out (tallyFrom tally) r out-after y → SinkCallPromise s given frame out tally w out-after (tallyNumbers y)
+of-numbers u s x given frame out tally r out-after y w e f g p =
+    subst⁻¹ (λ (v : SinkReply). SinkCallPromise s given frame out tally v out-after (tallyNumbers y)) g
+    (in-numbers s given frame out tally r out-after y
+    (subst (λ (z : SinkState). CallPromise s z frame out (tallyFrom tally) r out-after y) f
+    (subst (λ (v : Settings). CallPromise v x frame out (tallyFrom tally) r out-after y) e p)))
 
-array-read-t17 : tie.Need-array-read-t17
-array-read-t17 c = search needs
+array-read-t15 : tie.Need-array-read-t15
+array-read-t15 c = search needs
 
-array-read-t20 : tie.Need-array-read-t20
-array-read-t20 c = search needs
+array-read-t18 : tie.Need-array-read-t18
+array-read-t18 c = search needs
+
+array-read-t21 : tie.Need-array-read-t21
+array-read-t21 c = search needs
+
+settings-from-requires : tie.Need-settings-from-requires
+settings-from-requires c κs = search needs
 
 state-from-requires : tie.Need-state-from-requires
 state-from-requires c κs = search needs
@@ -49,25 +71,21 @@ same-length c = search needs
 
 returns : tie.Need-returns
 returns c =
-    let g = c .before .before .before .before .before .before .before .before .before .before .before .before .args in
-    let s = g .settings in
-    let frame = g .frame .now in
-    let out = g .out .now in
-    let state = c .before .before .before .before .before .before .before .before .state-from .ensures in
-    let p = c .before .before .before .before .before .before .lend-call .ensures in
-    record {
-      reply = c .sink-reply .ensures ∙ sink-meaning s (g .state) _ (stateFrom (g .state)) frame out _ _ state (p .sink);
-      out-buffer = p .sink .out-buffer ∙ ap (λ (z : SinkState). sinkOut s z frame out) state;
-      tally-numbers = ap tallyNumbers (p .tally ∙ ap (λ (z : SinkState). tallyAfter s z frame out (tallyFrom (g .tally .now))) state);
-    }
+    let g = c .before .before .before .before .before .before .before .before .before .before .before .before .before .args in
+    of-numbers _ (settingsFrom (g .settings)) _ (g .state) (g .frame .now) (g .out .now) (g .tally .now) _ _ _ _
+    (c .before .before .before .before .before .before .before .before .before .settings-from .ensures)
+    (c .before .before .before .before .before .before .before .before .state-from .ensures)
+    (c .sink-reply .ensures)
+    (c .before .before .before .before .before .before .lend-call .ensures)
 
 pub odu0-sink-call-spec : {M : Type 1} → statement M
 odu0-sink-call-spec =
     tie.close
     (tie.spec
-    array-read-t14
-    array-read-t17
-    array-read-t20
+    array-read-t15
+    array-read-t18
+    array-read-t21
+    settings-from-requires
     state-from-requires
     lend-call-requires
     sink-reply-requires

@@ -2,17 +2,17 @@
 use mathlib.Core.Path.{refl}
 use borrow.Author.Needs.{needs}
 use Rattle.refusals.proofs.Laws.{line}
-use Rattle.gmp_settings.specs.Settings.{outside}
-use Rattle.gmp_settings.proofs.Laws.{settings-judged}
+use Rattle.gmp_settings.specs.Patterns.{badPatterns}
 use Rattle.gmp_source.specs.Source.{startRefusal}
+use Rattle.gmp_source.proofs.Laws.{state-judged}
 use Rattle.gmp_source.proofs.judge_start.Statement.{statement}
 use Rattle.gmp_source.proofs.judge_start.Tie as tie
 
-judge-requires : tie.Need-judge-requires
-judge-requires c κs = search needs
+judge-state-requires : tie.Need-judge-state-requires
+judge-state-requires c κs = search needs
 
-is-outside-requires : tie.Need-is-outside-requires
-is-outside-requires c κs = search needs
+is-bad-patterns-requires : tie.Need-is-bad-patterns-requires
+is-bad-patterns-requires c κs = search needs
 
 refuse-if-requires : tie.Need-refuse-if-requires
 refuse-if-requires c κs = search needs
@@ -21,9 +21,9 @@ returns : tie.Need-returns
 unfolding startRefusal
 returns c =
     let g = c .before .before .before .args in
-    let fit = settings-judged (g .settings) (c .before .before .judge .ensures) in
-    line fit 5 (outside (g .settings) (g .count)) refl (c .before .is-outside .ensures) (c .refuse-if .ensures) .by
+    let state = state-judged (g .settings) (g .first) (c .before .before .judge-state .ensures) in
+    line state 14 (badPatterns (g .settings)) refl (c .before .is-bad-patterns .ensures) (c .refuse-if .ensures) .by
 
 pub judge-start-spec : {M : Type 1} → statement M
 judge-start-spec =
-    tie.close (tie.spec judge-requires is-outside-requires refuse-if-requires returns)
+    tie.close (tie.spec judge-state-requires is-bad-patterns-requires refuse-if-requires returns)

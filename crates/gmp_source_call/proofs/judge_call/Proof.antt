@@ -7,13 +7,14 @@ use borrow.Author.Needs.{needs}
 use Rattle.refusals.proofs.Laws.{line}
 use Rattle.gmp_settings.specs.Grid.{frameBytes}
 use Rattle.gmp_settings.specs.Settings.{outside}
+use Rattle.gmp_settings.specs.Patterns.{badPatterns}
 use Rattle.gmp_source.specs.Source.{sourceRefusal}
-use Rattle.gmp_source.proofs.Laws.{start-judged}
+use Rattle.gmp_source.proofs.Laws.{state-judged}
 use Rattle.gmp_source_call.proofs.judge_call.Statement.{statement}
 use Rattle.gmp_source_call.proofs.judge_call.Tie as tie
 
-judge-start-requires : tie.Need-judge-start-requires
-judge-start-requires c κs = search needs
+judge-state-requires : tie.Need-judge-state-requires
+judge-state-requires c κs = search needs
 
 is-outside-requires : tie.Need-is-outside-requires
 is-outside-requires c κs = search needs
@@ -33,25 +34,34 @@ frame-length-requires c κs = search needs
 refuse-if-requires-3 : tie.Need-refuse-if-requires-3
 refuse-if-requires-3 c κs = search needs
 
+is-bad-patterns-requires : tie.Need-is-bad-patterns-requires
+is-bad-patterns-requires c κs = search needs
+
+refuse-if-requires-4 : tie.Need-refuse-if-requires-4
+refuse-if-requires-4 c κs = search needs
+
 returns : tie.Need-returns
 unfolding sourceRefusal
 returns c =
-    let g = c .before .before .before .before .before .before .args in
-    let start = start-judged (g .settings) (g .state .count) (c .before .before .before .before .before .judge-start .ensures) in
-    let count = line start 6 (outside (g .settings) (g .next)) refl (c .before .before .before .before .is-outside .ensures) (c .before .before .before .refuse-if .ensures) in
-    let client = line count 7 (not (eqb (g .client-length) (g .state .count))) refl refl (c .before .before .refuse-if2 .ensures) in
-    let same = ap (λ (n : ℕ). not (eqb (g .frame-length) n)) (c .before .frame-length .ensures) in
-    line client 8 (not (eqb (g .frame-length) (frameBytes (g .settings .k)))) refl same (c .refuse-if3 .ensures) .by
+    let g = c .before .before .before .before .before .before .before .before .args in
+    let state = state-judged (g .settings) (g .state .count) (c .before .before .before .before .before .before .before .judge-state .ensures) in
+    let count = line state 6 (outside (g .settings) (g .next)) refl (c .before .before .before .before .before .before .is-outside .ensures) (c .before .before .before .before .before .refuse-if .ensures) in
+    let client = line count 7 (not (eqb (g .client-length) (g .state .count))) refl refl (c .before .before .before .before .refuse-if2 .ensures) in
+    let same = ap (λ (n : ℕ). not (eqb (g .frame-length) n)) (c .before .before .before .frame-length .ensures) in
+    let frame = line client 8 (not (eqb (g .frame-length) (frameBytes (g .settings .k)))) refl same (c .before .before .refuse-if3 .ensures) in
+    line frame 14 (badPatterns (g .settings)) refl (c .before .is-bad-patterns .ensures) (c .refuse-if4 .ensures) .by
 
 pub judge-call-spec : {M : Type 1} → statement M
 judge-call-spec =
     tie.close
     (tie.spec
-    judge-start-requires
+    judge-state-requires
     is-outside-requires
     refuse-if-requires
     cast-refuse-if
     refuse-if-requires-2
     frame-length-requires
     refuse-if-requires-3
+    is-bad-patterns-requires
+    refuse-if-requires-4
     returns)

@@ -5,14 +5,14 @@ use Rattle.gmp_refusal.proofs.Names.{named}
 use Rattle.odu0map.proofs.show_name.Statement.{statement}
 use Rattle.odu0map.proofs.show_name.Tie as tie
 
-refusal-number-requires : tie.Need-refusal-number-requires
-refusal-number-requires c κs = search needs
+refusal-place-requires : tie.Need-refusal-place-requires
+refusal-place-requires c κs = search needs
 
 cast-place : tie.Need-cast-place
 cast-place c = search needs
 
 sub-place : tie.Need-sub-place
-sub-place c = named (c .before .args .refusal) _ (c .refusal-number .ensures) .from-one
+sub-place c = named (c .before .args .refusal) _ (c .refusal-place .ensures) .from-one
 
 slice-aggregate-names : tie.Need-slice-aggregate-names
 slice-aggregate-names c = search needs
@@ -25,11 +25,11 @@ mul-end c = search needs
 
 array-read-end : tie.Need-array-read-end
 array-read-end c =
-    let w = named (c .before .before .args .refusal) _ (c .before .refusal-number .ensures) in
+    let w = named (c .before .before .args .refusal) _ (c .before .refusal-place .ensures) in
     omega (arith, w .from-one, w .to-last)
 
 add-end : tie.Need-add-end
-add-end c = record { fits = omega (arith, named (c .before .before .args .refusal) _ (c .before .refusal-number .ensures) .within) }
+add-end c = record { fits = omega (arith, named (c .before .before .args .refusal) _ (c .before .refusal-place .ensures) .within) }
 
 sub-write-all : tie.Need-sub-write-all
 sub-write-all c = search needs
@@ -38,7 +38,7 @@ part-write-all-start : tie.Need-part-write-all-start
 part-write-all-start c = search needs
 
 part-write-all-end : tie.Need-part-write-all-end
-part-write-all-end c = named (c .before .before .args .refusal) _ (c .before .refusal-number .ensures) .within
+part-write-all-end c = named (c .before .before .args .refusal) _ (c .before .refusal-place .ensures) .within
 
 write-all-requires : tie.Need-write-all-requires
 write-all-requires c κs = search needs
@@ -50,7 +50,7 @@ pub show-name-spec : {M : Type 1} → statement M
 show-name-spec =
     tie.close
     (tie.spec
-    refusal-number-requires
+    refusal-place-requires
     cast-place
     sub-place
     slice-aggregate-names

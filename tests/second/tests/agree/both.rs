@@ -4,7 +4,7 @@
 //! A case draws its random numbers from the seed, the test's name and its own index, so it can be
 //! run again alone. SEED sets another seed, CASE runs one case only, RUNS multiplies the cases.
 
-use second::{Keeper, Random, Settings, Sink, Source, Standing, Tally};
+use second::{pattern, Keeper, Random, Settings, Sink, Source, Standing, Tally};
 use std::fmt;
 use std::io::Write;
 use std::time::Instant;
@@ -16,12 +16,12 @@ pub struct Done {
     pub small: u64,
     /// Those with a larger K.
     pub large: u64,
-    /// Those with the settings of OPU0.
+    /// Those with the grid and the window of OPU0.
     pub opu0: u64,
     /// Accepted keeper calls, new keepers and new sources.
     pub others: u64,
     /// Calls turned back, by the refusal's number.
-    pub refused: [u64; 10],
+    pub refused: [u64; 15],
     /// Sink calls, by what they answered.
     pub standings: [u64; 6],
 }
@@ -218,7 +218,9 @@ impl Case {
     pub fn count_frame(&mut self, settings: Settings, refusal: Option<u32>) {
         match refusal {
             Some(number) => self.done.refused[number as usize] += 1,
-            None if settings == Settings::OPU0 => self.done.opu0 += 1,
+            None if Settings { patterns: None, ..settings } == Settings::OPU0 => {
+                self.done.opu0 += 1
+            }
             None if settings.k > 40 => self.done.large += 1,
             None => self.done.small += 1,
         }
@@ -233,7 +235,12 @@ impl Case {
 }
 
 pub fn settings_of(settings: Settings) -> odu0::Settings {
-    odu0::Settings::new(settings.k, settings.lo, settings.hi)
+    let same = odu0::Settings::new(settings.k, settings.lo, settings.hi);
+    if settings.patterns.is_none() {
+        return same;
+    }
+    let [plus1, minus1, plus2, minus2] = [1, -1, 2, -2].map(|change| pattern(settings, change));
+    same.with_patterns(odu0::Patterns { plus1, minus1, plus2, minus2 })
 }
 
 fn back(state: odu0::Source) -> Source {

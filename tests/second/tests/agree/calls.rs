@@ -23,7 +23,7 @@ fn random_sink_calls() {
     if all_cases() {
         assert!(done.standings.iter().all(|times| *times > 1000), "{:?}", done.standings);
         assert!(
-            [1, 2, 8, 9].iter().all(|number| done.refused[*number] > 1000),
+            [1, 2, 8, 9, 14].iter().all(|number| done.refused[*number] > 1000),
             "{:?}",
             done.refused
         );
@@ -60,7 +60,7 @@ fn random_source_calls() {
     });
     if all_cases() {
         assert!(
-            [1, 2, 5, 6, 7, 8].iter().all(|number| done.refused[*number] > 1000),
+            [1, 2, 5, 6, 7, 8, 14].iter().all(|number| done.refused[*number] > 1000),
             "{:?}",
             done.refused
         );
@@ -153,8 +153,8 @@ fn keeper_calls_and_their_sum() {
     cases("keeper_calls_and_their_sum", 60_000, |case| {
         let random = &mut case.random;
         let settings = match random.below(4) {
-            0 => Settings::OPU0,
-            1 => WIDE,
+            0 => some_patterns(random, Settings::OPU0),
+            1 => some_patterns(random, WIDE),
             _ => any_settings(random),
         };
         let q = match random.below(8) {
@@ -184,6 +184,8 @@ fn keeper_calls_and_their_sum() {
             // A refused call in between changes nothing.
             if case.random.once_in(6) {
                 assert!(case.keeper(settings, &mut keeper.clone(), p, 0).is_err());
+                let wrong = settings.with_patterns(broken(&mut case.random));
+                assert!(case.keeper(wrong, &mut keeper.clone(), p, q).is_err());
             }
             let Ok(count) = case.keeper(settings, &mut keeper, p, q) else {
                 assert_eq!((t, keeper.remainder), (1, remainder));

@@ -4,8 +4,34 @@
 use crate::both::{cases, settings_of, Lent};
 use crate::given::*;
 use odu0::ffi;
-use second::{Settings, Standing, Tally};
+use second::{Random, Settings, Standing, Tally};
 use std::ptr::null_mut;
+
+/// A flag that says this: 0 for no, any other value for yes.
+fn any_flag(random: &mut Random, yes: bool) -> u32 {
+    match random.below(3) {
+        _ if !yes => 0,
+        0 => random.of(&[2, 255, 256, 65536, 1 << 31, u32::MAX]),
+        _ => 1,
+    }
+}
+
+/// The fields of settings.
+pub fn fields_of(settings: Settings) -> ffi::Settings {
+    settings_of(settings).into()
+}
+
+/// The fields of settings with any flag that says the same, and any four numbers beside one of 0.
+pub fn any_fields(random: &mut Random, settings: Settings) -> ffi::Settings {
+    let mut fields = fields_of(settings);
+    if settings.patterns.is_none() {
+        let sound = random.once_in(2);
+        let four = if sound { kept(random) } else { broken(random) };
+        [fields.plus1, fields.minus1, fields.plus2, fields.minus2] = four;
+    }
+    fields.given = any_flag(random, settings.patterns.is_some());
+    fields
+}
 
 #[test]
 fn fields_of_a_sink_call() {
@@ -13,16 +39,11 @@ fn fields_of_a_sink_call() {
         let random = &mut case.random;
         let settings = any_settings(random);
         let mut state = any_sink(random, settings);
-        let mut flag = |is_some: bool| match random.below(3) {
-            _ if !is_some => 0,
-            0 => random.of(&[2, 255, 256, 65536, 1 << 31, u32::MAX]),
-            _ => 1,
-        };
-        let (known, remembered) = (flag(state.count.is_some()), flag(state.word.is_some()));
+        let fields = any_fields(random, settings);
         let given = ffi::Sink {
-            known,
+            known: any_flag(random, state.count.is_some()),
             count: state.count.unwrap_or(random.u32()),
-            remembered,
+            remembered: any_flag(random, state.word.is_some()),
             word: state.word.unwrap_or(random.u32()),
         };
         let frame = any_length(random, settings.frame());
@@ -41,15 +62,7 @@ fn fields_of_a_sink_call() {
             let (frame, out) = (their_frame.lent(), their_out.lent());
             let (frame, frame_len) = (frame.as_ptr(), frame.len());
             let (out, out_len) = (out.as_mut_ptr(), out.len());
-            ffi::odu0_sink_call(
-                settings_of(settings),
-                given,
-                frame,
-                frame_len,
-                out,
-                out_len,
-                &mut their_tally,
-            )
+            ffi::odu0_sink_call(fields, given, frame, frame_len, out, out_len, &mut their_tally)
         };
         let answer = state.call(settings, &frame, &mut out, &mut tally);
 
@@ -57,7 +70,7 @@ fn fields_of_a_sink_call() {
             Err(number) => (number, 0, None, 0),
             Ok((standing, handed)) => (0, standing_number(standing), standing.count(), handed),
         };
-        let said = || format!("{settings:?}, {given:?}, frame {frame:02X?}: {reply:?}");
+        let said = || format!("{fields:?}, {given:?}, frame {frame:02X?}: {reply:?}");
         assert_eq!((reply.refusal, reply.standing), (refusal, standing), "{}", said());
         assert_eq!(reply.found, u32::from(count.is_some()), "{}", said());
         assert_eq!(reply.count, count.unwrap_or(0), "{}", said());
@@ -98,6 +111,7 @@ fn standing_number(standing: Standing) -> u32 {
 fn a_buffer_of_length_0_may_be_null() {
     let settings = odu0::Settings::new(1, 0, 0);
     let source = odu0::Source::new(settings, 0, 7).unwrap();
+    let settings = ffi::Settings::from(settings);
     let sink = ffi::Sink::from(&odu0::Sink::new());
     let (mut tally, mut frame) = (odu0::Tally::default(), [9; 12]);
     let at = frame.as_mut_ptr();
@@ -112,7 +126,7 @@ fn a_buffer_of_length_0_may_be_null() {
         assert_eq!((reply.refusal, reply.standing, reply.found, reply.count), (0, 1, 1, 0));
         let reply = ffi::odu0_sink_call(settings, sink, null_mut(), 0, null_mut(), 0, &mut tally);
         assert_eq!(reply.refusal, 8);
-        let settings = odu0::Settings::new(1, 0, 1);
+        let settings = ffi::Settings { hi: 1, ..settings };
         let reply = ffi::odu0_sink_call(settings, sink, at, 12, null_mut(), 0, &mut tally);
         assert_eq!(reply.refusal, 9);
     }
@@ -122,7 +136,7 @@ fn a_buffer_of_length_0_may_be_null() {
 
 #[test]
 fn fields_of_calls_turned_back() {
-    let settings = settings_of(Settings::OPU0);
+    let settings = fields_of(Settings::OPU0);
     // SAFETY: plain values.
     let reply = unsafe { ffi::odu0_source_new(settings, 1, 7) };
     assert_eq!(reply.refusal, 5);

@@ -9,6 +9,52 @@ pub const WIDE: Settings = Settings::new(3808, 0, 15232);
 /// Changes that have a pattern.
 const CHANGES: [i64; 5] = [0, 1, -1, 2, -2];
 
+/// Four patterns, for +1, −1, +2, −2, that keep the rule (02, P11). Many have a few low bits only:
+/// such patterns lead from one count of a small window to another.
+pub fn kept(random: &mut Random) -> [u32; 4] {
+    let bits = random.of(&[0x1, 0x3, 0x7, 0xF, 0xFF, 0x3FFF, 0x3FFF]);
+    let [one, other, differ] = [(); 3].map(|()| random.u32() & bits);
+    let differ = differ.max(1);
+    let (plus, minus) = match random.below(9) {
+        0 => (0, 0),
+        1 => (0, other),
+        2 => (one, 0),
+        // The patterns of plus are those of minus; then so, but 1 and 2 change places.
+        3 => (one, one),
+        4 => (one, one ^ differ),
+        _ => (one, other),
+    };
+    [plus, minus, plus ^ differ, minus ^ differ]
+}
+
+/// Four patterns that break the rule or exceed 14 bits.
+pub fn broken(random: &mut Random) -> [u32; 4] {
+    let mut four = kept(random);
+    let (one, another) = (random.below(4) as usize, random.below(4) as usize);
+    let above = 1 << random.from_to(14, 31);
+    match random.below(6) {
+        0 => four[one] ^= 1 << random.below(14),
+        1 => (four[2], four[3]) = (four[0], four[1]),
+        2 => four[one] |= above,
+        3 => [one, another].iter().for_each(|at| four[*at] |= above),
+        4 => four.iter_mut().for_each(|pattern| *pattern |= above),
+        _ => {
+            four = [(); 4].map(|()| random.u32());
+            four[one] |= above;
+        }
+    }
+    four
+}
+
+/// The settings, half the time with patterns that keep the rule.
+pub fn some_patterns(random: &mut Random, settings: Settings) -> Settings {
+    if random.once_in(2) {
+        settings.with_patterns(kept(random))
+    } else {
+        settings
+    }
+}
+
 /// Settings that are accepted, on a small grid.
 pub fn small_settings(random: &mut Random) -> Settings {
     let k = if random.once_in(4) { random.from_to(7, 40) } else { random.from_to(1, 6) };
@@ -22,7 +68,7 @@ pub fn small_settings(random: &mut Random) -> Settings {
         4 => random.of(&[(0, 0), (s, s)]),
         _ => (one.min(two), one.max(two)),
     };
-    Settings::new(k, lo, hi)
+    some_patterns(random, Settings::new(k, lo, hi))
 }
 
 /// Settings of every sort, most of them accepted.
@@ -50,6 +96,9 @@ pub fn any_settings(random: &mut Random) -> Settings {
             odd,
         ];
         (settings.lo, settings.hi) = random.of(&windows);
+    }
+    if random.once_in(10) {
+        settings = settings.with_patterns(broken(random));
     }
     settings
 }
@@ -94,7 +143,7 @@ pub fn word_after(random: &mut Random, settings: Settings, count: u32) -> u32 {
         0 => count_inside(random, settings) % 16384,
         _ => (i64::from(count) + random.of(&CHANGES)).rem_euclid(16384) as u32,
     };
-    word(count, next)
+    word(settings, count, next)
 }
 
 /// A sink's state of any sort: counts outside the window, words with II = DI, words above 16 bits.
@@ -105,7 +154,7 @@ pub fn any_sink(random: &mut Random, settings: Settings) -> Sink {
         0 => random.u32(),
         1 => random.u32() & 0xFFFF,
         2 => word_after(random, settings, inside) | random.u32() << 16,
-        3 => word(0, inside % 16384),
+        3 => word(settings, 0, inside % 16384),
         _ => word_after(random, settings, inside),
     };
     Sink {
@@ -124,20 +173,30 @@ pub fn any_tally(random: &mut Random) -> Tally {
     Tally { frames: value(), bad: value(), bytes: value() }
 }
 
+/// Control bytes of the worked frames.
+const WORKED: [[u8; 3]; 6] = [
+    [0x00; 3],
+    [0xFF; 3],
+    [0x4B, 0xB6, 0x38],
+    [0x4B, 0x8A, 0x19],
+    [0xE1, 0x1E, 0x74],
+    [0xE1, 0x22, 0x55],
+];
+
 /// Three control bytes that a sink in this state may well follow, or not.
 pub fn any_control(random: &mut Random, settings: Settings, state: &Sink) -> [u8; 3] {
     let choice = random.below(16);
     let old = match (choice, state) {
         // A count which the remembered word may have announced.
         (0..=4, Sink { word: Some(before), .. }) if before & 1 != before >> 1 & 1 => {
-            random.of(&possible(*before))
+            random.of(&possible(settings, *before))
         }
         (5..=9, Sink { count: Some(count), .. }) => *count,
         _ => count_inside(random, settings),
     };
     let word = match choice {
         10 => random.u32() & 0xFFFF,
-        11 => return random.of(&[[0x00; 3], [0xFF; 3], [0x4B, 0xB6, 0x38], [0x4B, 0x8A, 0x19]]),
+        11 => return random.of(&WORKED),
         12 => return random.bytes(3).try_into().unwrap(),
         _ => word_after(random, settings, old),
     };
@@ -191,8 +250,8 @@ pub fn any_length(random: &mut Random, right: u64) -> usize {
 
 /// A word's C bits exclusive-or any of the four patterns: the counts that it continues, and those
 /// that it would with the other sign.
-pub fn near_misses(word: u32) -> [u32; 4] {
-    [1, -1, 2, -2].map(|change| word >> 2 & 0x3FFF ^ pattern(change))
+pub fn near_misses(settings: Settings, word: u32) -> [u32; 4] {
+    [1, -1, 2, -2].map(|change| word >> 2 & 0x3FFF ^ pattern(settings, change))
 }
 
 /// Settings on a grid so large that the window can hold a count and others that a pattern leads to
@@ -200,23 +259,24 @@ pub fn near_misses(word: u32) -> [u32; 4] {
 pub fn large_settings(random: &mut Random) -> Settings {
     let k = if random.once_in(2) { 3808 } else { random.from_to(1400, 3807) };
     let (one, two) = (random.from_to(0, 4 * k), random.from_to(0, 4 * k));
-    match random.below(3) {
+    let settings = match random.below(3) {
         0 => Settings::new(k, one.min(two), one.max(two)),
         _ => Settings::new(k, 0, 4 * k),
-    }
+    };
+    some_patterns(random, settings)
 }
 
 /// A false count which a word may seem to continue, and a false word before it.
 pub fn hostile_sink(random: &mut Random, settings: Settings, word: u32) -> Sink {
     let mut near_miss = || match random.below(8) {
         0 => count_inside(random, settings),
-        _ => random.of(&near_misses(word)),
+        _ => random.of(&near_misses(settings, word)),
     };
     let (count, announced) = (near_miss(), near_miss());
     let change = random.of(&[1, -1, 2, -2]);
     let before = (i64::from(announced) - change).rem_euclid(16384) as u32;
     Sink {
         count: random.once_in(2).then_some(count),
-        word: (!random.once_in(4)).then_some(second::word(before, announced)),
+        word: (!random.once_in(4)).then_some(second::word(settings, before, announced)),
     }
 }

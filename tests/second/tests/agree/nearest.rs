@@ -1,7 +1,7 @@
 //! The running total of a new rate keeper (02, P7): "nearest to t × p / q, exact halves going up".
 
 use crate::both::{cases, Case};
-use crate::given::{small_settings, WIDE};
+use crate::given::{broken, small_settings, some_patterns, WIDE};
 use second::{nearest, Settings};
 
 /// Whether T is nearest to t × p / q, exact halves going up, by the sentence that a partner cites.
@@ -19,6 +19,8 @@ fn totals(case: &mut Case, settings: Settings, p: u32, q: u32, times: u64) -> Ve
         if case.random.once_in(6) {
             let other = case.random.u32();
             assert_eq!(case.keeper(settings, &mut keeper, other, 0), Err(3));
+            let wrong = settings.with_patterns(broken(&mut case.random));
+            assert_eq!(case.keeper(wrong, &mut keeper, p, q), Err(14));
         }
         total += u64::from(case.keeper(settings, &mut keeper, p, q).unwrap());
         assert_eq!(total, nearest(t * u64::from(p), u64::from(q)), "{t} counts at {p} / {q}");
@@ -55,8 +57,8 @@ fn totals_of_new_keepers() {
     cases("totals_of_new_keepers", 20_000, |case| {
         let random = &mut case.random;
         let settings = match random.below(4) {
-            0 => Settings::OPU0,
-            1 => WIDE,
+            0 => some_patterns(random, Settings::OPU0),
+            1 => some_patterns(random, WIDE),
             _ => small_settings(random),
         };
         let any = random.from_to(1, 65535);

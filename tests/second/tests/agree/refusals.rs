@@ -5,7 +5,7 @@ use crate::given::{any_sink, any_tally};
 use second::{Keeper, Settings, Source};
 use std::collections::BTreeSet;
 
-/// Settings that each of grid and window applies to or not, in many ways.
+/// Settings that each of grid, window and patterns applies to or not, in many ways.
 fn settings_for_refusals() -> Vec<Settings> {
     let mut all = vec![Settings::OPU0];
     for k in [0, 1, 2, 3809, 1 << 30, u32::MAX] {
@@ -16,7 +16,11 @@ fn settings_for_refusals() -> Vec<Settings> {
             all.push(Settings::new(k, lo, hi));
         }
     }
-    all
+    // The paper's patterns; given ones that keep the rule, and that do not by one bit.
+    let with = |settings: &Settings| {
+        [*settings, settings.with_patterns([0, 0, 1, 1]), settings.with_patterns([0, 0, 1, 3])]
+    };
+    all.iter().flat_map(with).collect()
 }
 
 /// Lengths around a right one; some short ones where that one is too long to lend.
@@ -74,7 +78,7 @@ fn refusals_of_the_sink() {
             }
         }
     });
-    all_met(&[1, 2, 8, 9], &met);
+    all_met(&[1, 2, 8, 9, 14], &met);
 }
 
 #[test]
@@ -113,8 +117,8 @@ fn refusals_of_the_source() {
             }
         }
     });
-    all_met(&[1, 2, 5, 6, 7, 8], &met);
-    all_met(&[1, 2, 5], &met_new);
+    all_met(&[1, 2, 5, 6, 7, 8, 14], &met);
+    all_met(&[1, 2, 5, 14], &met_new);
 }
 
 #[test]
@@ -140,5 +144,5 @@ fn refusals_of_the_keeper() {
             }
         }
     });
-    all_met(&[1, 2, 3, 4, 5], &met);
+    all_met(&[1, 2, 3, 4, 5, 14], &met);
 }

@@ -31,9 +31,13 @@ fn source_run(case: &mut Case, settings: Settings, frames: usize) -> Vec<Written
         if random.once_in(16) {
             // One byte less, or one more where there is none.
             let wrong = load.len().wrapping_sub(1).min(load.len() + 1);
-            let refused = match random.below(3) {
+            let refused = match random.below(4) {
                 0 => case.source(settings, &mut source, settings.hi + 1, &load, &mut frame),
                 1 => case.source(settings, &mut source, next, &vec![1; wrong], &mut frame),
+                2 => {
+                    let settings = settings.with_patterns(broken(random));
+                    case.source(settings, &mut source, next, &load, &mut frame)
+                }
                 _ => case.source(settings, &mut source, next, &load, &mut frame[1..]),
             };
             assert!(refused.is_err());
@@ -86,7 +90,7 @@ fn arrivals(random: &mut Random, frames: usize, trouble: u64) -> Vec<usize> {
 
 /// One source and three sinks with one tally, over a line that harms, loses, doubles and reorders
 /// frames.
-fn rough_line(case: &mut Case, settings: Settings, frames: usize) {
+pub fn rough_line(case: &mut Case, settings: Settings, frames: usize) {
     let written = source_run(case, settings, frames);
     let mut tally =
         if case.random.once_in(4) { any_tally(&mut case.random) } else { Tally::default() };
@@ -101,11 +105,16 @@ fn rough_line(case: &mut Case, settings: Settings, frames: usize) {
                 harm(case, settings, &mut frame);
             }
             if case.random.once_in(16) {
-                let refused = if settings.hi > 0 && case.random.once_in(2) {
-                    let short = settings.hi as usize - 1;
-                    case.sink(settings, &mut state, &frame, &mut out[..short], &mut tally)
-                } else {
-                    case.sink(settings, &mut state, &frame[1..], &mut out, &mut tally)
+                let refused = match case.random.below(3) {
+                    0 if settings.hi > 0 => {
+                        let short = settings.hi as usize - 1;
+                        case.sink(settings, &mut state, &frame, &mut out[..short], &mut tally)
+                    }
+                    1 => {
+                        let settings = settings.with_patterns(broken(&mut case.random));
+                        case.sink(settings, &mut state, &frame, &mut out, &mut tally)
+                    }
+                    _ => case.sink(settings, &mut state, &frame[1..], &mut out, &mut tally),
                 };
                 assert!(refused.is_err());
             }
@@ -126,7 +135,10 @@ fn runs_on_small_grids() {
 
 #[test]
 fn runs_on_opu0() {
-    let done = cases("runs_on_opu0", 80, |case| rough_line(case, Settings::OPU0, 50));
+    let done = cases("runs_on_opu0", 80, |case| {
+        let settings = some_patterns(&mut case.random, Settings::OPU0);
+        rough_line(case, settings, 50);
+    });
     assert!(done.opu0 > 10_000 || !all_cases());
 }
 
@@ -161,7 +173,7 @@ fn a_clean_run_on_opu0() {
 
 /// The first claim: after two unharmed frames a sink in any state holds the source's count, and
 /// then goes with a new sink from frame 1.
-fn back_after_two_frames(case: &mut Case, settings: Settings, frames: usize) {
+pub fn back_after_two_frames(case: &mut Case, settings: Settings, frames: usize) {
     let written = source_run(case, settings, frames);
     // Frames are numbered from 1: frame n is written[n - 1].
     let m = 1 + case.random.below(frames as u64 - 1) as usize;
@@ -169,15 +181,14 @@ fn back_after_two_frames(case: &mut Case, settings: Settings, frames: usize) {
     let mut any = any_sink(&mut case.random, settings);
     if case.random.once_in(2) {
         let first = &written[m - 1];
-        any = hostile_sink(&mut case.random, settings, word(first.old, first.next));
+        any = hostile_sink(&mut case.random, settings, word(settings, first.old, first.next));
     }
     let mut tally = any_tally(&mut case.random);
     for n in 1..=frames {
         let Written { frame, load, old, next } = &written[n - 1];
-        let announced = if word(*old, *next) & 1 == word(*old, *next) >> 1 & 1 {
-            Standing::Read(*next)
-        } else {
-            Standing::Tracked(*next)
+        let announced = match word(settings, *old, *next) & 3 {
+            1 | 2 => Standing::Tracked(*next),
+            _ => Standing::Read(*next),
         };
         for (sink, from) in [(&mut new, 1), (&mut any, m)] {
             if n < from {
@@ -188,6 +199,8 @@ fn back_after_two_frames(case: &mut Case, settings: Settings, frames: usize) {
             let mut out = before.clone();
             if case.random.once_in(16) {
                 assert_eq!(case.sink(settings, sink, &frame[1..], &mut out, &mut tally), Err(8));
+                let wrong = settings.with_patterns(broken(&mut case.random));
+                assert_eq!(case.sink(wrong, sink, frame, &mut out, &mut tally), Err(14));
             }
             let answer = case.sink(settings, sink, frame, &mut out, &mut tally);
             if n > from {
@@ -211,7 +224,7 @@ fn back_after_two_frames(case: &mut Case, settings: Settings, frames: usize) {
 
 /// The second claim: with at most three wrong control bits in each frame, a new sink never holds a
 /// false count.
-fn no_false_count(case: &mut Case, settings: Settings, frames: usize) {
+pub fn no_false_count(case: &mut Case, settings: Settings, frames: usize) {
     let written = source_run(case, settings, frames);
     let m = 1 + case.random.below(frames as u64) as usize;
     let mut sink = Sink::new();
@@ -236,6 +249,8 @@ fn no_false_count(case: &mut Case, settings: Settings, frames: usize) {
         }
         if random.once_in(16) {
             assert_eq!(case.sink(settings, &mut sink, &frame[1..], &mut out, &mut tally), Err(8));
+            let wrong = settings.with_patterns(broken(&mut case.random));
+            assert_eq!(case.sink(wrong, &mut sink, &frame, &mut out, &mut tally), Err(14));
         }
         case.sink(settings, &mut sink, &frame, &mut out, &mut tally).unwrap();
         if let Some(count) = sink.count {
@@ -252,7 +267,8 @@ fn watch(name: &'static str, least: u32, claim: fn(&mut Case, Settings, usize)) 
         let frames = case.random.from_to(least, 60) as usize;
         claim(case, settings, frames);
         if case.index % 10 == 0 {
-            claim(case, Settings::OPU0, 6);
+            let settings = some_patterns(&mut case.random, Settings::OPU0);
+            claim(case, settings, 6);
             let settings = large_settings(&mut case.random);
             claim(case, settings, 6);
         }

@@ -1,0 +1,3 @@
+-- The settings as the plain numbers that C and Rust give. Assumes nothing.
+pub mod Numbers
+pub mod Lossless

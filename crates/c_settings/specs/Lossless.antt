@@ -1,0 +1,23 @@
+-- What crosses: all settings can be said in numbers, and where the flag is 0 the last four say
+-- nothing. Assumes nothing.
+use mathlib.Core.Path.{_≡_}
+use Prim.Native.Nat.{ℕ}
+use Rattle.gmp_settings.specs.declared.Settings.{Settings}
+use Rattle.gmp_settings.specs.declared.Patterns.{Patterns}
+use Rattle.gmp_settings.specs.declared.Patterns.the-variants.{Standard, Given}
+use Rattle.gmp_settings.specs.Settings.{newSettings}
+use Rattle.c_settings.specs.declared.SettingsNumbers.{SettingsNumbers}
+use Rattle.c_settings.specs.Numbers.{settingsFrom}
+
+-- the numbers of settings with this grid, window and patterns
+abbrev pub numbersOf : ℕ → ℕ → ℕ → Patterns → SettingsNumbers
+numbersOf k lo hi Standard = record { k = k; lo = lo; hi = hi; given = 0; plus1 = 0; minus1 = 0; plus2 = 0; minus2 = 0 }
+numbersOf k lo hi (Given p) =
+    record { k = k; lo = lo; hi = hi; given = 1; plus1 = p .plus1; minus1 = p .minus1; plus2 = p .plus2; minus2 = p .minus2 }
+
+abbrev pub settingsNumbers : Settings → SettingsNumbers
+settingsNumbers s = numbersOf (s .k) (s .lo) (s .hi) (s .patterns)
+
+pub record Lossless : Type 0 where
+  pub settings : (s : Settings) → settingsFrom (settingsNumbers s) ≡ s
+  pub standard : (x : SettingsNumbers) → x .given ≡ 0 → settingsFrom x ≡ newSettings (x .k) (x .lo) (x .hi)

@@ -1,0 +1,19 @@
+-- The settings as the plain numbers that C and Rust give. What may be missing is a flag, 0 for the
+-- standard's patterns, beside four numbers. Assumes nothing.
+use mathlib.Core.Bool.{cond}
+use Prim.Native.Nat.{ℕ}
+use lib.Dec.{eqb}
+use Rattle.gmp_settings.specs.declared.Settings.{Settings}
+use Rattle.gmp_settings.specs.declared.FourPatterns.{FourPatterns}
+use Rattle.gmp_settings.specs.Settings.{newSettings, withPatterns}
+use Rattle.c_settings.specs.declared.SettingsNumbers.{SettingsNumbers}
+
+-- the four patterns, as they stand
+abbrev pub fourFrom : SettingsNumbers → FourPatterns
+fourFrom x = record { plus1 = x .plus1; minus1 = x .minus1; plus2 = x .plus2; minus2 = x .minus2 }
+
+-- the settings that any eight numbers stand for
+unfoldable pub settingsFrom : SettingsNumbers → Settings
+settingsFrom x =
+    let s : Settings = newSettings (x .k) (x .lo) (x .hi) in
+    cond (eqb (x .given) 0) s (withPatterns s (fourFrom x))

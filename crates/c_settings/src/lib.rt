@@ -1,0 +1,44 @@
+// The settings for C and Rust: numbers in. All meaning is in the crates below; here values are only
+// converted.
+use gmp_settings::FourPatterns;
+use gmp_settings::Settings;
+ghost use mathlib.Core.Path.{_≡_};
+ghost use Rattle.c_settings.specs.Numbers.{settingsFrom};
+ghost use Rattle.c_settings.specs.Lossless.{Lossless};
+
+// The grid and the window, and a flag, 0 for the standard's patterns, beside four patterns for the
+// changes +1, -1, +2, -2.
+#[repr(C)]
+pub struct SettingsNumbers {
+    pub k: u32,
+    pub lo: u32,
+    pub hi: u32,
+    pub given: u32,
+    pub plus1: u32,
+    pub minus1: u32,
+    pub plus2: u32,
+    pub minus2: u32,
+}
+
+// The settings that eight numbers stand for. Where the flag is 0 the last four are not looked at.
+pub fn settings_from(numbers: SettingsNumbers) -> Settings
+    ensures { λ r. ⌜ r ≡ settingsFrom numbers ⌝ }
+{
+    let settings = gmp_settings::new_settings(numbers.k, numbers.lo, numbers.hi);
+    if numbers.given == 0 {
+        return settings;
+    }
+    let four = FourPatterns {
+        plus1: numbers.plus1,
+        minus1: numbers.minus1,
+        plus2: numbers.plus2,
+        minus2: numbers.minus2,
+    };
+    gmp_settings::with_patterns(settings, four)
+}
+
+// All settings can be said in numbers, and a flag of 0 says the standard's patterns, whatever the
+// four numbers are.
+pub fn lossless()
+    ensures { λ _. ⌜ Lossless ⌝ }
+{}
