@@ -1,5 +1,6 @@
 -- `c_settings::settings_from` meets its contract. Assumes nothing.
 use mathlib.Core.Path.{_∙_, ap}
+use native.Mathlib.Omega.{arith}
 use borrow.Author.Needs.{needs}
 use borrow.Author.Tests.{eq-eqb, ne-eqb}
 use Rattle.gmp_settings.specs.declared.Settings.{Settings}
@@ -13,7 +14,9 @@ new-settings-requires c κs = search needs
 
 returns : tie.Need-returns
 unfolding settingsFrom
-returns c = rw (eq-eqb _ _ (c .if1 .taken)) (c .before .before .new-settings .ensures)
+returns c =
+    let x = c .before .before .before .args .numbers in
+    rw (eq-eqb (x .given) 0 (omega (arith, c .if1 .taken))) (c .before .before .new-settings .ensures)
 
 with-patterns-requires : tie.Need-with-patterns-requires
 with-patterns-requires c κs = search needs
@@ -22,7 +25,7 @@ returns-2 : tie.Need-returns-2
 unfolding settingsFrom
 returns-2 c =
     let x = c .before .before .before .before .args .numbers in
-    rw (ne-eqb _ _ (c .before .if1 .left))
+    rw (ne-eqb (x .given) 0 (λ e. omega (arith, c .before .if1 .left)))
     (c .with-patterns .ensures ∙ ap (λ (s : Settings). withPatterns s (fourFrom x)) (c .before .before .before .new-settings .ensures))
 
 pub settings-from-spec : {M : Type 1} → statement M
