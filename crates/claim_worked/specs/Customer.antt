@@ -5,16 +5,15 @@
 use mathlib.Core.Path.{_≡_}
 use mathlib.Core.List.{List, [], _∷_}
 use Prim.Native.Nat.{ℕ}
-use lib.ListN.{length}
 use Rattle.gmp_crc8.specs.Check.{budget}
 use Rattle.gmp_settings.specs.declared.Settings.{Settings}
 use Rattle.gmp_settings.specs.Settings.{withPatterns}
 use Rattle.gmp_settings.specs.Worked.{customer, oneBitWrong}
-use Rattle.gmp_standing.specs.declared.Count.the-variants.{Known, Unknown}
+use Rattle.gmp_standing.specs.declared.Count.the-variants.{Known}
 use Rattle.gmp_standing.specs.Standing.{READ, TRACKED, PAIRED, BADCHECK, WAITING}
 use Rattle.gmp_control.specs.declared.Remembered.the-variants.{Word}
 use Rattle.gmp_source.specs.declared.SourceState.{SourceState}
-use Rattle.gmp_source.specs.Source.{sourceRefusal}
+use Rattle.gmp_source.specs.Source.{sourceRefusal, nextState}
 use Rattle.gmp_sink.specs.declared.SinkState.{SinkState}
 use Rattle.gmp_sink.specs.Sink.{newSink, sinkRefusal}
 use Rattle.claim_recovery.specs.Runs.{SourceCall, SinkCall, sourceSteps, sinkSteps, sinkEnd}
@@ -123,6 +122,7 @@ pub record CustomerRun : Type 0 where
   pub noisy-answers : answers (sinkSteps newSink theirNoisy) ≡ silent WAITING ∷ silent BADCHECK ∷ silent WAITING ∷ says READ 4 ∷ []
   pub noisy-holds : sinkEnd newSink theirNoisy .count ≡ Known 4
   pub ours-answers : answers (sinkSteps newSink ours) ≡ silent WAITING ∷ silent WAITING ∷ silent WAITING ∷ silent WAITING ∷ []
-  -- why the calls with the crooked patterns are turned back, and with a fault beside them
-  pub source-told : sourceRefusal crooked begun 6 4 16 ≡ 14
-  pub sink-told : (sinkRefusal crooked 16 8 ≡ 14) × (sinkRefusal crooked 16 7 ≡ 9)
+  -- the numbers by which the calls with the crooked patterns are turned back, and by which they
+  -- would be with 7 bytes of output
+  pub source-told : sourceRefusal crooked (nextState (nextState begun 6) 5) 3 5 16 ≡ 14
+  pub sink-told : (sinkRefusal crooked 16 16 ≡ 14) × (sinkRefusal crooked 16 7 ≡ 9)

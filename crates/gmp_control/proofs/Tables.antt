@@ -12,7 +12,7 @@ use Rattle.math.specs.Choice.{neither}
 use Rattle.gmp_settings.specs.declared.Settings.{Settings}
 use Rattle.gmp_settings.specs.declared.Patterns.{Patterns}
 use Rattle.gmp_settings.specs.declared.Patterns.the-variants.{Standard, Given}
-use Rattle.gmp_settings.specs.Patterns.{breaksRule, exceeds, refused, badPatterns}
+use Rattle.gmp_settings.specs.Patterns.{breaksRule, exceeds, badGiven, badPatterns}
 use Rattle.gmp_control.specs.Word.{modulus}
 use Rattle.gmp_control.specs.Pattern.{standard, tableBy, tableOf, patternAt, changeAt, Rule}
 use Rattle.gmp_control.specs.Checked.{RuleIsChecked}
@@ -47,7 +47,7 @@ standard-rule =
     }
 
 -- Patterns that number 14 does not refuse keep the rule,
-rule-by : (p : Patterns) → refused p ≡ false → Rule (tableBy p)
+rule-by : (p : Patterns) → badGiven p ≡ false → Rule (tableBy p)
 rule-by Standard e = standard-rule
 rule-by (Given p) e =
     let both = neither (breaksRule p) (exceeds p) e in
@@ -65,7 +65,7 @@ rule-by (Given p) e =
     }
 
 -- and those that keep it are not refused.
-kept-by : (p : Patterns) → Rule (tableBy p) → refused p ≡ false
+kept-by : (p : Patterns) → Rule (tableBy p) → badGiven p ≡ false
 kept-by Standard rule = refl
 kept-by (Given p) rule =
     let one : p .plus1 ≤ 16383 = omega (arith, rule .short 0) in

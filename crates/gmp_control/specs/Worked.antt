@@ -1,9 +1,11 @@
 -- Worked words of 01, and of tables that settings may carry (02, P11). Assumes nothing.
 use mathlib.Core.Path.{_≡_, refl}
+use mathlib.Core.Bool.{false}
 use Prim.Native.Nat.{ℕ}
 use Rattle.gmp_settings.specs.declared.Settings.{Settings}
 use Rattle.gmp_settings.specs.declared.Patterns.the-variants.{Given}
 use Rattle.gmp_settings.specs.Settings.{newSettings, withPatterns, opu0, outside}
+use Rattle.gmp_settings.specs.Patterns.{badFour}
 use Rattle.gmp_settings.specs.Worked.{four, oneBitWrong}
 use Rattle.gmp_standing.specs.declared.Count.the-variants.{Known, Unknown}
 use Rattle.gmp_standing.specs.Standing.{finding, READ, TRACKED, PAIRED, WAITING, OUTSIDE}
@@ -11,7 +13,7 @@ use Rattle.gmp_standing.specs.Known.{inWindow}
 use Rattle.gmp_control.specs.declared.WordBytes.{WordBytes}
 use Rattle.gmp_control.specs.declared.Remembered.the-variants.{Word, Nothing}
 use Rattle.gmp_control.specs.Word.{countBits, equalIndicators, wordBytes, wordBy}
-use Rattle.gmp_control.specs.Pattern.{Table, standard, tableBy, tableOf}
+use Rattle.gmp_control.specs.Pattern.{Table, standard, tableBy, tableOf, patternAt}
 use Rattle.gmp_control.specs.Announce.{announced}
 use Rattle.gmp_control.specs.Follow.{usable, tracked, candidate, paired, reading, foundBy, found}
 
@@ -77,6 +79,10 @@ pub odd-table :
     × (found odd Unknown (Word (wordBy 0xE1 0x1E)) (wordBy 0xE1 0x22) ≡ finding PAIRED (Known 14409))
 unfolding announced foundBy inWindow usable tracked candidate paired reading equalIndicators tableOf outside
 odd-table = (refl, refl, refl, refl, refl, refl)
+
+-- the paper's patterns pass too where they are given
+pub standard-given : badFour (four (patternAt standard 0) (patternAt standard 1) (patternAt standard 2) (patternAt standard 3)) ≡ false
+standard-given = refl
 
 -- A table that breaks the rule in one bit: a source goes 14408, 14410, 14409, and a new sink in the
 -- window 0 to 15232 says PAIRED with the false count 4384. OPU0's window turns that down.

@@ -3,8 +3,8 @@ ghost use mathlib.Core.Path.{_≡_};
 ghost use Rattle.refusals.specs.Table.{reason, withLine};
 ghost use Rattle.gmp_refusal.specs.Refusal.{refusalNumber, refusalPlace, verdictNumber};
 
-// Why a call is turned back, in the order of the paper's numbers: 1 to 9, and 14. The numbers
-// between are those of other components.
+// Why a call is turned back, in the order of the paper's numbers: 1 to 9, and 14. No call of the
+// mapper answers a number between.
 pub enum Refusal {
     Grid,
     Window,
