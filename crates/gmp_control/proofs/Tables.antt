@@ -26,7 +26,7 @@ beyond a b c d (suc (suc (suc zero))) h = absurd (omega arith)
 beyond a b c d (suc (suc (suc (suc k)))) h = refl
 
 -- four numbers below a bound are a table below it
-table-lt : (a b c d m : ℕ) → a < m → b < m → c < m → d < m → (k : ℕ) → getD (a ∷ b ∷ c ∷ d ∷ []) k 0 < m
+pub table-lt : (a b c d m : ℕ) → a < m → b < m → c < m → d < m → (k : ℕ) → getD (a ∷ b ∷ c ∷ d ∷ []) k 0 < m
 table-lt a b c d m ha hb hc hd zero = ha
 table-lt a b c d m ha hb hc hd (suc zero) = hb
 table-lt a b c d m ha hb hc hd (suc (suc zero)) = hc

@@ -2,10 +2,11 @@
 use mathlib.Core.Path.{_≡_}
 use mathlib.Core.Bool.{false}
 use Rattle.gmp_settings.specs.declared.Settings.{Settings}
+use Rattle.gmp_settings.specs.declared.FourPatterns.{FourPatterns}
 use Rattle.gmp_settings.specs.declared.Patterns.the-variants.{Given}
 use Rattle.gmp_settings.specs.Patterns.{badPatterns}
 use Rattle.gmp_settings.specs.Worked.{oneBitWrong, alike, fifteenBits}
-use Rattle.gmp_control.specs.Pattern.{tableBy, tableOf, Rule}
+use Rattle.gmp_control.specs.Pattern.{Table, tableBy, tableOf, Same, Differ, Short, Rule}
 use Rattle.gmp_control.specs.Claims.{RecoversInTwo}
 
 -- what is checked is the rule: "four that break the rule or exceed 14 bits" are refused, and no
@@ -14,9 +15,14 @@ pub record RuleIsChecked : Type 0 where
   pub enough : (s : Settings) → badPatterns s ≡ false → Rule (tableOf s)
   pub no-more : (s : Settings) → Rule (tableOf s) → badPatterns s ≡ false
 
--- Without one part of the rule two words in succession need not find the count: where the two
--- exclusive-ors differ in one bit, where both are zero, and where the patterns have 15 bits.
+-- No two parts of the rule do: a table that keeps these, and with which two words in succession
+-- need not find the count
+abbrev pub NotEnough : (Table → Type 0) → (Table → Type 0) → FourPatterns → Type 0
+NotEnough One Other p = let t = tableBy (Given p) in One t × Other t × (RecoversInTwo t → ⊥)
+
+-- one where the exclusive-ors of the two signs differ in one bit, one where both are zero, and one
+-- of 15 bits
 pub record RuleIsNeeded : Type 0 where
-  pub same : RecoversInTwo (tableBy (Given oneBitWrong)) → ⊥
-  pub differ : RecoversInTwo (tableBy (Given alike)) → ⊥
-  pub short : RecoversInTwo (tableBy (Given fifteenBits)) → ⊥
+  pub same : NotEnough Differ Short oneBitWrong
+  pub differ : NotEnough Same Short alike
+  pub short : NotEnough Same Differ fifteenBits

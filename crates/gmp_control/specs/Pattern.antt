@@ -36,9 +36,19 @@ patternAt t k = getD t k 0
 abbrev pub changeAt : ℕ → ℕ
 changeAt k = getD (1 ∷ 16383 ∷ 2 ∷ 16382 ∷ []) k 0
 
--- The rule of a table: the two patterns of a sign differ in the same bits for both signs, and in
--- some bit; and all have 14 bits.
+-- The rule of a table: the two patterns of a sign differ in the same bits for both signs,
+abbrev pub Same : Table → Type 0
+Same t = bitXor (patternAt t 0) (patternAt t 2) ≡ bitXor (patternAt t 1) (patternAt t 3)
+
+-- and in some bit;
+abbrev pub Differ : Table → Type 0
+Differ t = bitXor (patternAt t 0) (patternAt t 2) ≡ 0 → ⊥
+
+-- and all have 14 bits.
+abbrev pub Short : Table → Type 0
+Short t = (k : ℕ) → patternAt t k < modulus
+
 pub record Rule (t : Table) : Type 0 where
-  pub same : bitXor (patternAt t 0) (patternAt t 2) ≡ bitXor (patternAt t 1) (patternAt t 3)
-  pub differ : bitXor (patternAt t 0) (patternAt t 2) ≡ 0 → ⊥
-  pub short : (k : ℕ) → patternAt t k < modulus
+  pub same : Same t
+  pub differ : Differ t
+  pub short : Short t

@@ -75,8 +75,8 @@ pub fn rule_is_checked()
     ensures { λ _. ⌜ RuleIsChecked ⌝ }
 {}
 
-// No part of the rule can be left out: of three tables that each break one part of it, each has a
-// run in which two words in succession do not find the count.
+// No part of the rule can be left out: for each part there is a table that keeps the other two, and
+// a run of two words in succession that do not find the count.
 pub fn rule_is_needed()
     ensures { λ _. ⌜ RuleIsNeeded ⌝ }
 {}
