@@ -1,10 +1,12 @@
 //! Times the proved source call and sink call on frames beside plain and fast versions that nobody
-//! proved, in one run, as ratios. All versions are first seen to agree, and with the argument
-//! `check` that is all. With `against`, two libraries are timed beside each other instead.
+//! proved, and the sink call with mending on beside that with mending off, in one run, as ratios.
+//! All versions are first seen to agree, and with the argument `check` that is all. With `against`,
+//! two libraries are timed beside each other instead.
 
 mod against;
 
 use odu0::{Settings, Sink, Source, Tally};
+use std::cell::{Cell, RefCell};
 use std::hint::black_box;
 use std::time::Instant;
 
@@ -110,6 +112,29 @@ impl Job {
         let mut sink = Sink { count: Some(c as u32), word: None };
         sink.call(self.settings, &self.frame, &mut outs[3], &mut Tally::default()).unwrap();
         assert!(outs.iter().all(|o| o[..c] == self.client[..]), "taking differs: k {k}, count {c}");
+        self.agree_mended(&mut outs[0]);
+    }
+
+    /// With mending on the frame is taken as well, and also with each of its control bits wrong.
+    fn agree_mended(&self, out: &mut [u8]) {
+        let (on, count) = (self.settings.with_mending(), self.client.len() as u32);
+        let mut sink = Sink { count: Some(count), word: None };
+        let mut frame = self.frame.clone();
+        for wrong in (0..24).map(Some).chain([None]) {
+            out.fill(0);
+            self.turn_over(&mut frame, wrong);
+            let taken = sink.call(on, &frame, out, &mut Tally::default()).unwrap();
+            self.turn_over(&mut frame, wrong);
+            assert_eq!((taken.mended, sink.count), (wrong.is_some(), Some(count)), "{wrong:?}");
+            assert!(out.starts_with(&self.client), "k {}, count {count}, {wrong:?}", on.k);
+        }
+    }
+
+    /// Turns over a control bit of a frame, 0 to 23 of JC1 to JC3, if there is one to turn over.
+    fn turn_over(&self, frame: &mut [u8], bit: Option<usize>) {
+        if let Some(bit) = bit {
+            frame[bit / 8 * (self.settings.k as usize + 2) + 1] ^= 0x80 >> (bit % 8);
+        }
     }
 }
 
@@ -168,6 +193,33 @@ fn measure(job: &Job) -> ([f64; 5], [f64; 5]) {
     (place, take)
 }
 
+/// The times of the sink: with mending off; with mending on where the words are whole; and so where
+/// each frame has a wrong bit, each of the 24 in turn. All three are lent the same buffers.
+fn measure_mending(job: &Job) -> [f64; 3] {
+    let (off, on) = (job.settings, job.settings.with_mending());
+    let sink = RefCell::new(Sink { count: Some(job.client.len() as u32), word: None });
+    let frame = RefCell::new(job.frame.clone());
+    let out = RefCell::new(vec![0; job.settings.hi as usize]);
+    let (tally, turn) = (RefCell::new(Tally::default()), Cell::new(0));
+    let take = |settings: Settings, wrong: Option<usize>| {
+        let mut frame = frame.borrow_mut();
+        job.turn_over(&mut frame, wrong);
+        let (mut out, mut tally) = (out.borrow_mut(), tally.borrow_mut());
+        let (from, to) = (black_box(&frame[..]), black_box(&mut out[..]));
+        let taken = sink.borrow_mut().call(settings, from, to, &mut tally).unwrap();
+        assert_eq!(taken.mended, wrong.is_some());
+        job.turn_over(&mut frame, wrong);
+    };
+    race([
+        Box::new(|| take(off, None)),
+        Box::new(|| take(on, None)),
+        Box::new(|| {
+            turn.set((turn.get() + 1) % 24);
+            take(on, Some(turn.get()));
+        }),
+    ])
+}
+
 fn show(title: &str, t: [f64; 5]) {
     println!(
         "{title:<28} {:>9.0} ns   {:.2} of the C byte loop, {:.2} of C runs, {:.2} of Rust runs, \
@@ -200,6 +252,16 @@ fn main() {
     let (place, take) = measure(&opu0);
     show("source call, OPU0, 14407", place);
     show("sink call, OPU0, 14407", take);
+    println!("sink call with mending on:");
+    for (k, count) in [(3808, 14407), (119, 450), (1, 4), (1, 0)] {
+        let [off, whole, wrong] = measure_mending(&Job::new(k, count));
+        println!(
+            "{:<28} {whole:>9.0} ns   {:.2} of mending off, {:.2} with a wrong bit in each frame",
+            format!("  K = {k}, {count}"),
+            whole / off,
+            wrong / off
+        );
+    }
     println!("with K, at 14407 / 15232 of the payload:");
     for k in [119, 476, 1904, 3808] {
         let (p, t) = measure(&Job::new(k, (4 * k) * 14407 / 15232));

@@ -43,21 +43,38 @@ enum odu0_standing {
     ODU0_READ = 1,     /* the word holds the count itself */
     ODU0_TRACKED = 2,  /* the known count moved as the word says */
     ODU0_PAIRED = 3,   /* this word and the one before it lead to the count */
-    ODU0_BADCHECK = 4, /* the control bytes fail the check */
+    ODU0_BADCHECK = 4, /* the control bytes fail the check, and were not mended */
     ODU0_WAITING = 5,  /* no count yet: the next word is awaited */
     ODU0_OUTSIDE = 6   /* the count that was reached is outside the window */
 };
 
 /*
  * The settings: k payload columns in a row (1 to 3,808); the window of counts lo to hi, hi at most
- * 4 * k; and the inversion patterns, with which a control word says that the count changes by +1,
- * -1, +2 or -2. A source and its sinks need the same ones.
+ * 4 * k; the inversion patterns, with which a control word says that the count changes by +1, -1,
+ * +2 or -2; and whether a sink mends one wrong control bit. A source and its sinks need the same
+ * patterns. Only the sink's call looks at `mending`.
  *
  * Where `given` is 0 the patterns are the standard's, whatever the four numbers after it are, and
  * are never refused. Where it is any other value the four numbers are the patterns. Each is of 14
  * bits, 0 to 16,383, with C1 the highest and C14 the lowest; plus1 ^ plus2 must equal
  * minus1 ^ minus2, and must not be 0. A pattern of 0 is allowed, and so is a plus pattern that
  * equals a minus pattern.
+ *
+ * Where `mending` is 0 it is off, and any other value says that it is on; none is refused. The
+ * remainder of the control bytes as read is JC3 ^ the remainder of JC1 and JC2. Where it is 0 they
+ * are read as they came, on or off. With mending on a remainder that is that of one wrong bit among
+ * the 24 of JC1 to JC3 has that bit flipped before they are read, and the frame is told as mended;
+ * any other remainder is ODU0_BADCHECK. With mending off every remainder but 0 is: one wrong
+ * control bit then costs the count and the remembered word, and two clean frames are needed to be
+ * sure of a count again.
+ *
+ * What follows holds where each call gets the state that the call before it returned, and where the
+ * accepted calls have the settings of one source, `mending` apart, and take its frames one after
+ * the other, without a restart, none missing, doubled or out of its turn. A new sink never holds a
+ * false count while no frame that it reads has more than three wrong control bits with mending off,
+ * or more than two with mending on. With mending on, a sink that holds the source's count and reads
+ * frames each with at most one wrong control bit and its other bytes unharmed keeps the count and
+ * hands out each load exactly; and one in any state holds the count after two such frames.
  */
 typedef struct odu0_settings {
     uint32_t k;
@@ -68,22 +85,27 @@ typedef struct odu0_settings {
     uint32_t minus1;
     uint32_t plus2;
     uint32_t minus2;
+    uint32_t mending;
 } odu0_settings;
 
 /* clang-format off */
 /*
- * Initialises settings with the standard's patterns:
+ * Initialises settings with the standard's patterns and mending off:
  * const odu0_settings eight = ODU0_SETTINGS(2, 0, 8);
+ * Mending is turned on behind it, with settings.mending = 1; mending.c shows a whole job with it.
  */
-#define ODU0_SETTINGS(k, lo, hi) {(k), (lo), (hi), 0, 0, 0, 0, 0}
+#define ODU0_SETTINGS(k, lo, hi) {(k), (lo), (hi), 0, 0, 0, 0, 0, 0}
 
-/* Initialises settings with four other patterns; patterns.c shows a whole job with such. */
+/*
+ * Initialises settings with four other patterns and mending off; patterns.c shows a whole job with
+ * such.
+ */
 #define ODU0_SETTINGS_WITH_PATTERNS(k, lo, hi, plus1, minus1, plus2, minus2) \
-    {(k), (lo), (hi), 1, (plus1), (minus1), (plus2), (minus2)}
+    {(k), (lo), (hi), 1, (plus1), (minus1), (plus2), (minus2), 0}
 /* clang-format on */
 
 /*
- * Initialises the settings of OPU0 with the standard's patterns:
+ * Initialises the settings of OPU0 with the standard's patterns and mending off:
  * const odu0_settings opu0 = ODU0_OPU0;
  */
 #define ODU0_OPU0 ODU0_SETTINGS(3808, 14405, 14410)
@@ -112,8 +134,8 @@ typedef struct odu0_sink {
 } odu0_sink;
 
 /*
- * One tally for the whole card: frames taken, BADCHECK frames and bytes handed out. Each stays at
- * its largest value.
+ * One tally for the whole card: frames taken, BADCHECK frames, of which a mended frame is none, and
+ * bytes handed out. Each stays at its largest value.
  */
 typedef struct odu0_tally {
     uint32_t frames;
@@ -139,8 +161,12 @@ typedef struct odu0_keeper_reply {
 
 /*
  * The answer to a sink: the refusal's number, 0 if accepted; the standing, 0 if refused; whether it
- * found a count, 1 or 0, and the count, 0 if none; how many bytes it handed out; and the state to
- * go on from.
+ * found a count, 1 or 0, and the count, 0 if none; how many bytes it handed out; whether the
+ * frame's control bytes were mended, 1 or 0, and 0 if refused; and the state to go on from.
+ *
+ * A mended frame has any standing but ODU0_BADCHECK. A wrong bit in JC3 is mended as well: the word
+ * is as it came then, and the frame is told as mended. The word that a state remembers is the
+ * mended one.
  */
 typedef struct odu0_sink_reply {
     uint32_t refusal;
@@ -148,6 +174,7 @@ typedef struct odu0_sink_reply {
     uint32_t found;
     uint32_t count;
     uint32_t handed;
+    uint32_t mended;
     odu0_sink state;
 } odu0_sink_reply;
 
@@ -189,8 +216,9 @@ odu0_sink odu0_sink_new(void);
 
 /*
  * Takes a frame: hands out, to the start of the output buffer, the client bytes at the places of
- * the count known before, leaves the bytes after them as they were, follows the control word, and
- * counts the frame in the tally. Refusals 1, 2, 8, 9, 14.
+ * the count known before, leaves the bytes after them as they were, follows the control word, which
+ * it mends before where the settings say so and it can, and counts the frame in the tally. The
+ * frame itself is left as it came. Refusals 1, 2, 8, 9, 14.
  */
 odu0_sink_reply odu0_sink_call(odu0_settings settings,
                                odu0_sink state,

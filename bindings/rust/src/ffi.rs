@@ -6,7 +6,8 @@
 use crate::{Source, Tally};
 
 /// odu0_settings: a `given` of 0 says the standard's patterns, whatever the four numbers after it
-/// are; any other value says that they are the patterns.
+/// are; any other value says that they are the patterns. A `mending` of 0 says off, any other value
+/// on.
 #[repr(C)]
 #[derive(Clone, Copy, Debug, PartialEq, Eq)]
 pub struct Settings {
@@ -18,6 +19,7 @@ pub struct Settings {
     pub minus1: u32,
     pub plus2: u32,
     pub minus2: u32,
+    pub mending: u32,
 }
 
 /// odu0_sink: a flag of 0 says none, whatever stands beside it.
@@ -56,6 +58,7 @@ pub struct SinkReply {
     pub found: u32,
     pub count: u32,
     pub handed: u32,
+    pub mended: u32,
     pub state: Sink,
 }
 

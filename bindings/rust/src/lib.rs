@@ -3,8 +3,9 @@
 //! Every call accepts every value of every argument and buffers of every length, and ends with an
 //! answer or a [`Refusal`]. A refused call changes no buffer, no state and no tally. The library
 //! keeps no state of its own; a state is plain data in the caller's hands, and nothing here
-//! allocates. `examples/mapper.rs` shows a whole job, and `examples/patterns.rs` one with inversion
-//! patterns other than the standard's.
+//! allocates. `examples/mapper.rs` shows a whole job, `examples/patterns.rs` one with inversion
+//! patterns other than the standard's, and `examples/mending.rs` one over a span that turns single
+//! bits over.
 
 #![no_std]
 #![warn(missing_docs)]
@@ -13,7 +14,8 @@ pub mod ffi;
 
 use core::fmt;
 
-/// The settings: the grid, the window and the inversion patterns.
+/// The settings: the grid, the window, the inversion patterns, and whether a sink mends one wrong
+/// control bit.
 #[derive(Clone, Copy, Debug, PartialEq, Eq)]
 pub struct Settings {
     /// Payload columns in a row, 1 to 3,808.
@@ -25,6 +27,25 @@ pub struct Settings {
     /// The inversion patterns; `None` says the standard's, which are never refused. A source and
     /// its sinks need the same ones.
     pub patterns: Option<Patterns>,
+    /// Whether a sink mends one wrong control bit. Only the sink's call looks at it, and neither
+    /// value is refused.
+    ///
+    /// The remainder of the control bytes as read is JC3 ^ the remainder of JC1 and JC2. Where it
+    /// is 0 they are read as they came, on or off. With mending on a remainder that is that of one
+    /// wrong bit among the 24 of JC1 to JC3 has that bit flipped before they are read, and the
+    /// frame is told as mended; any other remainder is BADCHECK. With mending off every remainder
+    /// but 0 is: one wrong control bit then costs the count and the remembered word, and two clean
+    /// frames are needed to be sure of a count again.
+    ///
+    /// What follows holds where nothing else writes the sink's state, and where the accepted calls
+    /// have the settings of one source, `mending` apart, and take its frames one after the other,
+    /// without a restart, none missing, doubled or out of its turn. A new sink never holds a false
+    /// count while no frame that it reads has more than three wrong control bits with mending off,
+    /// or more than two with mending on. With mending on, a sink that holds the source's count and
+    /// reads frames each with at most one wrong control bit and its other bytes unharmed keeps the
+    /// count and hands out each load exactly; and one in any state holds the count after two such
+    /// frames.
+    pub mending: bool,
 }
 
 /// Four inversion patterns, with which a control word says that the count changes by +1, −1, +2 or
@@ -44,18 +65,23 @@ pub struct Patterns {
 }
 
 impl Settings {
-    /// OPU0: 3,808 columns, counts 14,405 to 14,410, the standard's patterns.
+    /// OPU0: 3,808 columns, counts 14,405 to 14,410, the standard's patterns, mending off.
     pub const OPU0: Settings = Settings::new(3808, 14405, 14410);
 
-    /// Settings with k payload columns in a row, the window of counts lo to hi, and the standard's
-    /// patterns.
+    /// Settings with k payload columns in a row, the window of counts lo to hi, the standard's
+    /// patterns, and mending off.
     pub const fn new(k: u32, lo: u32, hi: u32) -> Settings {
-        Settings { k, lo, hi, patterns: None }
+        Settings { k, lo, hi, patterns: None, mending: false }
     }
 
-    /// The same grid and window with these patterns in the place of the standard's.
+    /// The same with these patterns in the place of the standard's.
     pub const fn with_patterns(self, patterns: Patterns) -> Settings {
         Settings { patterns: Some(patterns), ..self }
+    }
+
+    /// The same with mending on.
+    pub const fn with_mending(self) -> Settings {
+        Settings { mending: true, ..self }
     }
 }
 
@@ -151,7 +177,7 @@ pub enum Standing {
     Tracked(u32),
     /// This word and the one before it lead to the count.
     Paired(u32),
-    /// The control bytes fail the check.
+    /// The control bytes fail the check, and were not mended.
     BadCheck,
     /// No count yet: the next word is awaited.
     Waiting,
@@ -268,7 +294,7 @@ impl Keeper {
 pub struct Tally {
     /// Frames taken.
     pub frames: u32,
-    /// Frames that answered BADCHECK.
+    /// Frames that answered BADCHECK; a mended frame is none of them.
     pub bad: u32,
     /// Bytes handed out.
     pub bytes: u32,
@@ -285,6 +311,9 @@ pub struct Taken {
     pub standing: Standing,
     /// How many bytes it handed out, at the start of the output buffer.
     pub handed: u32,
+    /// Whether the frame's control bytes were mended. Such a frame has any standing but BADCHECK. A
+    /// wrong bit in JC3 is mended as well, and then the word is as it came.
+    pub mended: bool,
 }
 
 /// A sink's state.
@@ -292,7 +321,8 @@ pub struct Taken {
 pub struct Sink {
     /// The known count, if there is one. One outside the window counts as none.
     pub count: Option<u32>,
-    /// The remembered word (JC1 × 256 + JC2), if there is one. One with II = DI counts as none.
+    /// The remembered word (JC1 × 256 + JC2), if there is one; of a mended frame it is the mended
+    /// one. One with II = DI counts as none.
     pub word: Option<u32>,
 }
 
@@ -304,8 +334,9 @@ impl Sink {
     }
 
     /// Takes a frame: hands out, to the start of `out`, the client bytes at the places of the count
-    /// known before, leaves the bytes after them as they were, follows the control word, and counts
-    /// the frame in the tally. Refusals: grid, window, frame, space, patterns.
+    /// known before, leaves the bytes after them as they were, follows the control word, which it
+    /// mends before where the settings say so and it can, and counts the frame in the tally.
+    /// Refusals: grid, window, frame, space, patterns.
     pub fn call(
         &mut self,
         settings: Settings,
@@ -338,7 +369,7 @@ impl Sink {
             6 => Standing::Outside,
             other => panic!("libodu0 answered standing {other}, which odu0.h does not have"),
         };
-        Ok(Taken { standing, handed: reply.handed })
+        Ok(Taken { standing, handed: reply.handed, mended: reply.mended != 0 })
     }
 }
 
@@ -350,11 +381,11 @@ impl Default for Sink {
 
 impl From<Settings> for ffi::Settings {
     fn from(settings: Settings) -> ffi::Settings {
-        let Settings { k, lo, hi, patterns } = settings;
+        let Settings { k, lo, hi, patterns, mending } = settings;
         let given = patterns.is_some().into();
         let Patterns { plus1, minus1, plus2, minus2 } =
             patterns.unwrap_or(Patterns { plus1: 0, minus1: 0, plus2: 0, minus2: 0 });
-        ffi::Settings { k, lo, hi, given, plus1, minus1, plus2, minus2 }
+        ffi::Settings { k, lo, hi, given, plus1, minus1, plus2, minus2, mending: mending.into() }
     }
 }
 

@@ -3,11 +3,11 @@
 use gmp_settings::FourPatterns;
 use gmp_settings::Settings;
 ghost use mathlib.Core.Path.{_≡_};
-ghost use Rattle.c_settings.specs.Numbers.{settingsFrom};
+ghost use Rattle.c_settings.specs.Numbers.{patternsFrom, settingsFrom};
 ghost use Rattle.c_settings.specs.Lossless.{Lossless};
 
-// The grid and the window, and a flag, 0 for the standard's patterns, beside four patterns for the
-// changes +1, -1, +2, -2.
+// The grid and the window; a flag, 0 for the standard's patterns, beside four patterns for the
+// changes +1, -1, +2, -2; and a flag, 0 for no mending.
 #[repr(C)]
 pub struct SettingsNumbers {
     pub k: u32,
@@ -18,11 +18,26 @@ pub struct SettingsNumbers {
     pub minus1: u32,
     pub plus2: u32,
     pub minus2: u32,
+    pub mending: u32,
 }
 
-// The settings that eight numbers stand for. Where the flag is 0 the last four are not looked at.
+// The settings that nine numbers stand for. Any flag but 0 says mending.
 pub fn settings_from(numbers: SettingsNumbers) -> Settings
     ensures { λ r. ⌜ r ≡ settingsFrom numbers ⌝ }
+{
+    gmp_settings::with_mending(patterns_from(numbers), numbers.mending != 0)
+}
+
+// All settings can be said in numbers, and a flag of 0 says the standard's patterns, whatever the
+// four numbers are.
+pub fn lossless()
+    ensures { λ _. ⌜ Lossless ⌝ }
+{}
+
+// The grid, the window and the patterns. Where the flag of the patterns is 0 the four numbers are
+// not looked at.
+fn patterns_from(numbers: SettingsNumbers) -> Settings
+    ensures { λ r. ⌜ r ≡ patternsFrom numbers ⌝ }
 {
     let settings = gmp_settings::new_settings(numbers.k, numbers.lo, numbers.hi);
     if numbers.given == 0 {
@@ -36,9 +51,3 @@ pub fn settings_from(numbers: SettingsNumbers) -> Settings
     };
     gmp_settings::with_patterns(settings, four)
 }
-
-// All settings can be said in numbers, and a flag of 0 says the standard's patterns, whatever the
-// four numbers are.
-pub fn lossless()
-    ensures { λ _. ⌜ Lossless ⌝ }
-{}

@@ -1,6 +1,7 @@
--- What crosses can be read back: no state, answer or tally is lost on the way out. Assumes nothing.
+-- What crosses can be read back: no state, answer, mended bit or tally is lost on the way out.
+-- Assumes nothing.
 use mathlib.Core.Path.{_≡_}
-use mathlib.Core.Bool.{cond}
+use mathlib.Core.Bool.{Bool, not, cond}
 use mathlib.Core.List.{List}
 use Prim.Native.Nat.{ℕ}
 use lib.Dec.{eqb}
@@ -27,8 +28,14 @@ nameFrom k =
 abbrev pub answerFrom : SinkReply → Answer Finding
 answerFrom r = cond (eqb (r .standing) 0) (refused (r .refusal)) (accepted (finding (nameFrom (r .standing)) (countFrom (r .found) (r .count))))
 
+-- whether a reply says that a bit was mended
+abbrev pub mendedFrom : SinkReply → Bool
+mendedFrom r = not (eqb (r .mended) 0)
+
 pub record Lossless : Type 0 where
   pub state : (z : SinkState) → stateFrom (stateNumbers z) ≡ z
-  pub standing : (given : SinkNumbers) (x : Standing) (handed : ℕ) (z : SinkState) → answerFrom (sinkReplyBy given (accepted (standingMeaning x)) handed z) ≡ accepted (standingMeaning x)
-  pub refusal : (given : SinkNumbers) (n handed : ℕ) (z : SinkState) → answerFrom (sinkReplyBy given (refused n) handed z) ≡ refused n
+  pub standing : (given : SinkNumbers) (x : Standing) (handed : ℕ) (b : Bool) (z : SinkState)
+      → answerFrom (sinkReplyBy given (accepted (standingMeaning x)) handed b z) ≡ accepted (standingMeaning x)
+  pub refusal : (given : SinkNumbers) (n handed : ℕ) (b : Bool) (z : SinkState) → answerFrom (sinkReplyBy given (refused n) handed b z) ≡ refused n
+  pub mended : (given : SinkNumbers) (a : Answer Finding) (handed : ℕ) (b : Bool) (z : SinkState) → mendedFrom (sinkReplyBy given a handed b z) ≡ b
   pub tally : (y : Tally) → tallyFrom (tallyNumbers y) ≡ y

@@ -1,7 +1,7 @@
 -- The sink's values as the plain numbers that C and Rust see, and back. What may be missing is a
 -- flag, 0 for none, beside a number. Assumes nothing.
 use mathlib.Core.Path.{_≡_}
-use mathlib.Core.Bool.{cond}
+use mathlib.Core.Bool.{Bool, cond}
 use mathlib.Core.List.{List, [], _∷_}
 use Prim.Native.Nat.{ℕ}
 use lib.Dec.{eqb}
@@ -15,7 +15,7 @@ use Rattle.gmp_control.specs.declared.Remembered.{Remembered}
 use Rattle.gmp_control.specs.declared.Remembered.the-variants.{Word, Nothing}
 use Rattle.card_tally.specs.declared.Tally.{Tally}
 use Rattle.gmp_sink.specs.declared.SinkState.{SinkState}
-use Rattle.gmp_sink.specs.Sink.{sinkAnswer, sinkState, sinkHanded, sinkOut}
+use Rattle.gmp_sink.specs.Sink.{sinkAnswer, sinkState, sinkMended, sinkHanded, sinkOut}
 use Rattle.card_sink.specs.Card.{tallyAfter}
 use Rattle.c_sink.specs.declared.SinkNumbers.{SinkNumbers}
 use Rattle.c_sink.specs.declared.SinkReply.{SinkReply}
@@ -52,24 +52,30 @@ abbrev pub stateNumbers : SinkState → SinkNumbers
 stateNumbers z =
     record { known = countFlag (z .count); count = countValue (z .count); remembered = wordFlag (z .word); word = wordValue (z .word) }
 
+-- a flag, 0 for no
+abbrev pub flagOf : Bool → ℕ
+flagOf b = cond b 1 0
+
 -- The reply of a sink call from the numbers x. A refused call returns the very numbers that it was
 -- given.
-abbrev pub sinkReplyBy : SinkNumbers → Answer Finding → ℕ → SinkState → SinkReply
-sinkReplyBy x (accepted f) handed z =
+abbrev pub sinkReplyBy : SinkNumbers → Answer Finding → ℕ → Bool → SinkState → SinkReply
+sinkReplyBy x (accepted f) handed mended z =
     record {
       refusal = 0;
       standing = standingNumber (f .name);
       found = countFlag (f .count);
       count = countValue (f .count);
       handed = handed;
+      mended = flagOf mended;
       state = stateNumbers z;
     }
-sinkReplyBy x (refused n) handed z =
-    record { refusal = n; standing = 0; found = 0; count = 0; handed = handed; state = x }
+sinkReplyBy x (refused n) handed mended z =
+    record { refusal = n; standing = 0; found = 0; count = 0; handed = handed; mended = flagOf mended; state = x }
 
 -- a sink call from the numbers x, over the lists of its buffers
 abbrev pub sinkReply : Settings → SinkNumbers → SinkState → List ℕ → List ℕ → SinkReply
-sinkReply s x z frame out = sinkReplyBy x (sinkAnswer s z frame out) (length (sinkHanded s z frame out)) (sinkState s z frame out)
+sinkReply s x z frame out =
+    sinkReplyBy x (sinkAnswer s z frame out) (length (sinkHanded s z frame out)) (sinkMended s frame out) (sinkState s z frame out)
 
 -- the tally as three numbers in a row
 abbrev pub tallyFrom : List ℕ → Tally

@@ -11,7 +11,7 @@ use gmp_standing::Count;
 ghost use mathlib.Core.Path.{_≡_};
 ghost use Rattle.gmp_sink.specs.Sink.{newSink, answerMeaning};
 ghost use Rattle.c_settings.specs.Numbers.{settingsFrom};
-ghost use Rattle.c_sink.specs.Numbers.{countFrom, countFlag, countValue, wordFrom, wordFlag, wordValue, stateFrom, stateNumbers, sinkReplyBy, SinkCallPromise};
+ghost use Rattle.c_sink.specs.Numbers.{countFrom, countFlag, countValue, wordFrom, wordFlag, wordValue, stateFrom, stateNumbers, flagOf, sinkReplyBy, SinkCallPromise};
 ghost use Rattle.c_sink.specs.Lossless.{Lossless};
 
 // A sink's state: a flag, 0 for none, beside the count and beside the remembered word.
@@ -23,8 +23,8 @@ pub struct SinkNumbers {
     pub word: u32,
 }
 
-// The refusal's number or 0, the standing's number or 0, what it found, the bytes handed out, and
-// the sink's state.
+// The refusal's number or 0, the standing's number or 0, what it found, the bytes handed out, a
+// flag, 1 where a wrong control bit was mended, and the sink's state.
 #[repr(C)]
 pub struct SinkReply {
     pub refusal: u32,
@@ -32,6 +32,7 @@ pub struct SinkReply {
     pub found: u32,
     pub count: u32,
     pub handed: u32,
+    pub mended: u32,
     pub state: SinkNumbers,
 }
 
@@ -79,10 +80,11 @@ pub fn lossless()
 
 // A refused call returns the very numbers that it was given.
 fn sink_reply(given: SinkNumbers, result: SinkResult) -> SinkReply
-    ensures { λ r. ⌜ r ≡ sinkReplyBy given (answerMeaning (result .answer)) (result .handed) (result .state) ⌝ }
+    ensures { λ r. ⌜ r ≡ sinkReplyBy given (answerMeaning (result .answer)) (result .handed) (result .mended) (result .state) ⌝ }
 {
     let answer = result.answer;
     let state = result.state;
+    let mended = flag(result.mended);
     match answer {
         SinkAnswer::Done(standing) => {
             let found = count_numbers(gmp_standing::found_count(standing));
@@ -92,6 +94,7 @@ fn sink_reply(given: SinkNumbers, result: SinkResult) -> SinkReply
                 found: found.flag,
                 count: found.value,
                 handed: result.handed,
+                mended: mended,
                 state: state_numbers(state),
             }
         }
@@ -101,9 +104,20 @@ fn sink_reply(given: SinkNumbers, result: SinkResult) -> SinkReply
             found: 0,
             count: 0,
             handed: result.handed,
+            mended: mended,
             state: given,
         },
     }
+}
+
+// A flag, 0 for no.
+fn flag(holds: bool) -> u32
+    ensures { λ r. ⌜ r ≡ flagOf holds ⌝ }
+{
+    if holds {
+        return 1;
+    }
+    0
 }
 
 // The sink's state that four numbers stand for, and the four numbers of a state.

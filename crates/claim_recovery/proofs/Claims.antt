@@ -2,11 +2,12 @@
 -- Assumes nothing.
 use mathlib.Core.Path.{_≡_, refl, ap, _∙_, subst}
 use mathlib.Core.Logic.{_⊎_, inl, inr, ⊎-map}
+use mathlib.Core.Bool.{Bool, true}
 use mathlib.Core.List.{List, [], _∷_}
 use Prim.Native.Nat.{ℕ, zero, suc, _+_, _-_, _≤_, _<_}
 use native.Mathlib.Omega.{arith}
 use lib.ListN.{length, drop, length-drop}
-use Rattle.gmp_crc8.specs.Check.{budget}
+use Rattle.gmp_crc8.specs.Claims.{budget}
 use Rattle.gmp_settings.specs.declared.Settings.{Settings}
 use Rattle.gmp_standing.specs.declared.Count.{Count}
 use Rattle.gmp_standing.specs.declared.Count.the-variants.{Known, Unknown}
@@ -16,9 +17,10 @@ use Rattle.gmp_sink.specs.declared.SinkState.{SinkState}
 use Rattle.gmp_sink.specs.Sink.{newSink}
 use Rattle.claim_recovery.specs.Runs.{At, Nth, SourceCall, SinkCall, SourceStep, SinkStep, sourceSteps, sinkSteps, sinkEnd, countOf}
 use Rattle.claim_recovery.specs.Demand.{SourceRun, Reads, Unharmed, AtMostWrong, Delivers, Recovery, NoFalseCount, Demand3}
+use Rattle.claim_recovery.specs.Mended.{OneWrong, Keeps, KeepsEach, HoldsCount, CostsNothing}
 use Rattle.claim_recovery.proofs.Lists.{Each, to-each, each-at, at-drop, drop-at, nth-at, at-nth, nth-same}
 use Rattle.claim_recovery.proofs.Threads.{Chain, chain, chain-drop, Thread, thread}
-use Rattle.claim_recovery.proofs.Along.{countAfter, recovers, never-false}
+use Rattle.claim_recovery.proofs.Along.{countAfter, AsWritten, unharmed, Went, in-step, recovers, never-false, Good, all-good}
 
 -- the last frame read, and the count after it
 last-read : (Lent : SourceStep → SinkStep → Type 0) (old : ℕ) (xs : List SourceStep) (ys : List SinkStep) (i : ℕ) → length ys ≡ suc i → Each Lent xs ys
@@ -59,49 +61,48 @@ module _ (s : Settings) (source : SourceState) (calls : List SourceCall) (run : 
         let l = last-read Lent old (drop (m - 1) sent) heard (length heard - 1) (omega arith) beside in
         (l .0, at-nth sent n (m - 1 + (length heard - 1)) (l .0) (omega arith) (at-drop sent (m - 1) (length heard - 1) (m - 1 + (length heard - 1)) (l .0) refl (l .1)), l .2)
 
-  -- One sink in any state from frame m, up to frame n, n at least m + 1.
-  module _ (m n : ℕ) (z : SinkState) (reader : List SinkCall) (reads : Reads s sent Unharmed m n z reader) (far : m + 1 ≤ n) where
-    two : 2 ≤ length (sinkSteps z reader)
-    two = let up = reads .up-to in omega arith
-
-    recovered : (sinkEnd z reader .count ≡ Known (countAfter (frames (m - 1) .0) (drop (m - 1) sent) (sinkSteps z reader)))
-        × Each Delivers (drop 2 (drop (m - 1) sent)) (drop 2 (sinkSteps z reader))
-    recovered =
-        recovers s (frames (m - 1) .0) (drop (m - 1) sent) z (sinkSteps z reader) (sinkEnd z reader) (frames (m - 1) .1)
-        (told Unharmed m n z reader reads) (beside Unharmed m n z reader reads) two
-
-    holds : (x : SourceStep) × Nth sent n x × (sinkEnd z reader .count ≡ Known (countOf x))
-    holds =
-        let w = two in
-        let l = ends Unharmed m n z reader reads (frames (m - 1) .0) (omega arith) in
-        (l .0, l .1, recovered .0 ∙ ap Known (l .2))
-
-    delivers : (i : ℕ) → m + 2 ≤ i → i ≤ n → (x : SourceStep) × (y : SinkStep) × Nth sent i x × Nth (sinkSteps z reader) (i + 1 - m) y × Delivers x y
-    delivers i low high =
+    -- what holds of each frame after the first d, and of its call, by the frame's number
+    by-number : (R : SourceStep → SinkStep → Type 0) (d : ℕ) → Each R (drop d (drop (m - 1) sent)) (drop d heard)
+        → (i : ℕ) → m + d ≤ i → i ≤ n → (x : SourceStep) × (y : SinkStep) × Nth sent i x × Nth heard (i + 1 - m) y × R x y
+    by-number R d r i low high =
         let one = reads .from in
         let up = reads .up-to in
-        let j : ℕ = i - m - 2 in
-        let h = each-at Delivers (drop 2 (drop (m - 1) sent)) (drop 2 (sinkSteps z reader)) (i - m - 2) (rw length-drop (omega arith)) (recovered .1) in
-        let p = at-drop (drop (m - 1) sent) 2 (i - m - 2) (i - m) (h .0) (omega arith) (h .2) in
-        let q = at-drop (sinkSteps z reader) 2 (i - m - 2) (i - m) (h .1) (omega arith) (h .3) in (
+        let h = each-at R (drop d (drop (m - 1) sent)) (drop d heard) (i - m - d) (rw length-drop (omega arith)) r in
+        let p = at-drop (drop (m - 1) sent) d (i - m - d) (i - m) (h .0) (omega arith) (h .2) in
+        let q = at-drop heard d (i - m - d) (i - m) (h .1) (omega arith) (h .3) in (
           h .0,
           h .1,
           at-nth sent i (i - 1) (h .0) (omega arith) (at-drop sent (m - 1) (i - m) (i - 1) (h .0) (omega arith) p),
-          at-nth (sinkSteps z reader) (i + 1 - m) (i - m) (h .1) (omega arith) q,
+          at-nth heard (i + 1 - m) (i - m) (h .1) (omega arith) q,
           h .4,
         )
+
+    -- A sink in any state from frame m, up to frame n, n at least m + 1, by frames that go for
+    -- those that were written.
+    module _ (goes : (x : SourceStep) (y : SinkStep) → Lent x y → AsWritten s x y) (far : m + 1 ≤ n) where
+      two : 2 ≤ length heard
+      two = let up = reads .up-to in omega arith
+
+      recovered : (sinkEnd z reader .count ≡ Known (countAfter (frames (m - 1) .0) (drop (m - 1) sent) heard)) × Each (Went Lent) (drop 2 (drop (m - 1) sent)) (drop 2 heard)
+      recovered = recovers s Lent goes (frames (m - 1) .0) (drop (m - 1) sent) z heard (sinkEnd z reader) (frames (m - 1) .1) told beside two
+
+      holds : (x : SourceStep) × Nth sent n x × (sinkEnd z reader .count ≡ Known (countOf x))
+      holds =
+          let w = two in
+          let l = ends (frames (m - 1) .0) (omega arith) in
+          (l .0, l .1, recovered .0 ∙ ap Known (l .2))
 
 recovers-both : Recovery
 recovers-both s source calls run m n far fromFirst reads z fromAny reads₂ =
     let one = reads₂ .from in
-    let a = holds s source calls run 1 n newSink fromFirst reads (omega arith) in
-    let b = holds s source calls run m n z fromAny reads₂ far in
+    let a = holds s source calls run Unharmed 1 n newSink fromFirst reads (unharmed s) (omega arith) in
+    let b = holds s source calls run Unharmed m n z fromAny reads₂ (unharmed s) far in
     let e = nth-same (sourceSteps source calls) n (b .0) (a .0) (b .1) (a .1) in
     record {
       hold = (a .0, a .1, a .2, b .2 ∙ ap (λ (x : SourceStep). Known (countOf x)) e);
       deliver = λ i low high.
-          let d = delivers s source calls run 1 n newSink fromFirst reads (omega arith) i (omega arith) high in
-          let f = delivers s source calls run m n z fromAny reads₂ far i low high in
+          let d = by-number s source calls run Unharmed 1 n newSink fromFirst reads (Went Unharmed) 2 (recovered s source calls run Unharmed 1 n newSink fromFirst reads (unharmed s) (omega arith) .1) i (omega arith) high in
+          let f = by-number s source calls run Unharmed m n z fromAny reads₂ (Went Unharmed) 2 (recovered s source calls run Unharmed m n z fromAny reads₂ (unharmed s) far .1) i low high in
           let g = nth-same (sourceSteps source calls) i (f .0) (d .0) (f .2) (d .2) in
           let k : i + 1 - 1 ≡ i = omega arith in (
             d .0,
@@ -110,8 +111,8 @@ recovers-both s source calls run m n far fromFirst reads z fromAny reads₂ =
             d .2,
             subst (λ (j : ℕ). Nth (sinkSteps newSink fromFirst) j (d .1)) k (d .3),
             f .3,
-            d .4,
-            subst (λ (x : SourceStep). Delivers x (f .1)) g (f .4),
+            d .4 .0,
+            subst (λ (x : SourceStep). Delivers x (f .1)) g (f .4 .0),
           );
     }
 
@@ -120,8 +121,8 @@ none-or (Known m) n h = inr (ap Known h)
 none-or Unknown n h = inl refl
 
 -- The second claim, over the budget of the check.
-few-wrong-bits : NoFalseCount budget
-few-wrong-bits s source calls run m n reader reads = record { count = by (sinkSteps newSink reader) refl; none = unread }
+few-wrong-bits : (mending : Bool) → NoFalseCount mending (budget mending)
+few-wrong-bits mending s same source calls run m n reader reads = record { count = by (sinkSteps newSink reader) refl; none = unread }
   where
     old : ℕ
     old = frames s source calls run (m - 1) .0
@@ -130,12 +131,12 @@ few-wrong-bits s source calls run m n reader reads = record { count = by (sinkSt
     end = sinkEnd newSink reader
 
     heard-all : Thread s newSink (sinkSteps newSink reader) end
-    heard-all = told s source calls run (AtMostWrong budget s) m n newSink reader reads
+    heard-all = told s source calls run (AtMostWrong (budget mending) s) m n newSink reader reads
 
     safe : NoneOr (λ (c : ℕ). c ≡ countAfter old (drop (m - 1) (sourceSteps source calls)) (sinkSteps newSink reader)) (end .count)
     safe =
-        never-false s old (drop (m - 1) (sourceSteps source calls)) (sinkSteps newSink reader) end (frames s source calls run (m - 1) .1)
-        heard-all (beside s source calls run (AtMostWrong budget s) m n newSink reader reads)
+        never-false s mending same old (drop (m - 1) (sourceSteps source calls)) (sinkSteps newSink reader) end (frames s source calls run (m - 1) .1)
+        heard-all (beside s source calls run (AtMostWrong (budget mending) s) m n newSink reader reads)
 
     unread : sinkSteps newSink reader ≡ [] → end .count ≡ Unknown
     unread e = ap (λ (q : SinkState). q .count) (subst (λ (ys : List SinkStep). Thread s newSink ys end) e heard-all)
@@ -145,8 +146,79 @@ few-wrong-bits s source calls run m n reader reads = record { count = by (sinkSt
     by [] e = inl (unread e)
     by (y ∷ ys) e =
         let l : length (sinkSteps newSink reader) ≡ suc (length ys) = ap length e in
-        let last = ends s source calls run (AtMostWrong budget s) m n newSink reader reads old (omega arith) in
+        let last = ends s source calls run (AtMostWrong (budget mending) s) m n newSink reader reads old (omega arith) in
         ⊎-map (λ c. c) (λ c. (last .0, last .1, c ∙ ap Known (last .2))) (none-or (end .count) _ safe)
 
 pub demand : Demand3
 demand = record { recovery = recovers-both; no-false-count = few-wrong-bits }
+
+-- The third claim: with mending on, frames with at most one wrong control bit go for those that
+-- were written.
+module _ (s : Settings) (on : s .mending ≡ true) (source : SourceState) (calls : List SourceCall) (run : SourceRun s source calls)
+    (m n : ℕ) (z : SinkState) (reader : List SinkCall) (reads : Reads s (sourceSteps source calls) (OneWrong s) m n z reader) where
+  abbrev all : List SourceStep
+  all = sourceSteps source calls
+
+  -- the count that frame m begins with
+  abbrev begun : ℕ
+  begun = frames s source calls run (m - 1) .0
+
+  chained : Chain s begun (drop (m - 1) all)
+  chained = frames s source calls run (m - 1) .1
+
+  threaded : Thread s z (sinkSteps z reader) (sinkEnd z reader)
+  threaded = told s source calls run (OneWrong s) m n z reader reads
+
+  goods : Each (Good s) (drop (m - 1) all) (sinkSteps z reader)
+  goods =
+      all-good s on begun (drop (m - 1) all) z (sinkSteps z reader) (sinkEnd z reader) chained threaded (beside s source calls run (OneWrong s) m n z reader reads)
+
+  goes-good : (x : SourceStep) (y : SinkStep) → Good s x y → AsWritten s x y
+  goes-good x y g = g .goes
+
+  -- each frame after the first d is kept
+  keeps : (d : ℕ) → Each (Went (Good s)) (drop d (drop (m - 1) all)) (drop d (sinkSteps z reader)) → KeepsEach s all m (m + d) n z reader
+  keeps d r i low high =
+      let h = by-number s source calls run (OneWrong s) m n z reader reads (Went (Good s)) d r i low high in
+      (h .0, h .1, h .2, h .3, record { delivers = h .4 .0; holds = h .4 .1; told = h .4 .2 .told })
+
+  -- the count of the last frame read
+  last : 0 < length (sinkSteps z reader) → sinkEnd z reader .count ≡ Known (countAfter begun (drop (m - 1) all) (sinkSteps z reader)) → HoldsCount all n z reader
+  last h e =
+      let l = ends s source calls run (OneWrong s) m n z reader reads begun h in
+      (l .0, l .1, e ∙ ap Known (l .2))
+
+  -- it is the one that the sink holds
+  held-by : (xs : List SourceStep) (ys : List SinkStep) → Chain s begun xs → Each (Good s) xs ys → 0 < length ys → ((x : SourceStep) → At xs 0 x → z .count ≡ Known (x .state .count))
+      → z .count ≡ Known begun
+  held-by xs [] c r l h = absurd (omega arith)
+  held-by [] (y ∷ ys) c r l h = absurd r
+  held-by (x ∷ xs) (y ∷ ys) c r l h = h x refl ∙ ap Known (c .0 .from)
+
+  module _ (held : (x : SourceStep) → Nth all m x → z .count ≡ Known (x .state .count)) where
+    along : m ≤ n → (sinkEnd z reader .count ≡ Known (countAfter begun (drop (m - 1) all) (sinkSteps z reader))) × Each (Went (Good s)) (drop (m - 1) all) (sinkSteps z reader)
+    along l =
+        let one = reads .from in
+        let up = reads .up-to in
+        in-step s (Good s) goes-good begun (drop (m - 1) all) z (sinkSteps z reader) (sinkEnd z reader) chained threaded goods
+        (held-by (drop (m - 1) all) (sinkSteps z reader) chained goods (omega arith)
+        (λ x p. held x (at-nth all m (m - 1) x (omega arith) (at-drop all (m - 1) 0 (m - 1) x (omega arith) p))))
+
+    holding-by : KeepsEach s all m m n z reader × (m ≤ n → HoldsCount all n z reader)
+    holding-by = (λ i low high. keeps 0 (along (omega arith) .1) i (omega arith) high, λ l. let up = reads .up-to in last (omega arith) (along l .0))
+
+  hunting-by : KeepsEach s all m (m + 2) n z reader × (m + 1 ≤ n → HoldsCount all n z reader)
+  hunting-by = (λ i low high. keeps 2 (found (omega arith) .1) i low high, λ l. let up = reads .up-to in last (omega arith) (found l .0))
+    where
+      found : m + 1 ≤ n → (sinkEnd z reader .count ≡ Known (countAfter begun (drop (m - 1) all) (sinkSteps z reader)))
+          × Each (Went (Good s)) (drop 2 (drop (m - 1) all)) (drop 2 (sinkSteps z reader))
+      found far =
+          let up = reads .up-to in
+          recovers s (Good s) goes-good begun (drop (m - 1) all) z (sinkSteps z reader) (sinkEnd z reader) chained threaded goods (omega arith)
+
+pub costs-nothing : CostsNothing
+costs-nothing =
+    record {
+      holding = λ s on source calls run m n z held reader reads. holding-by s on source calls run m n z reader reads held;
+      hunting = λ s on source calls run m n z reader reads. hunting-by s on source calls run m n z reader reads;
+    }

@@ -4,3 +4,4 @@ mod Along
 pub mod Claims
 mod Tallied
 mod Observed
+mod Flagged

@@ -81,6 +81,7 @@ as-defined =
       sink = sink-is;
       end = end-is;
       answer = λ c. c .kept .sink .answer;
+      mended = λ c. c .kept .sink .mended;
       handed = λ c. c .kept .sink .handed-bytes;
       out = λ c. c .kept .sink .out-buffer;
       tally = tally-is;

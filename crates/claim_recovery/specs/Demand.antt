@@ -6,7 +6,8 @@ use mathlib.Core.Bool.{Bool, cond}
 use mathlib.Core.List.{List, [], _++_}
 use Prim.Native.Nat.{ℕ, _+_, _-_, _≤_}
 use lib.ListN.{length, drop}
-use Rattle.gmp_crc8.specs.Check.{wrongBits, budget}
+use Rattle.gmp_crc8.specs.Check.{wrongBits}
+use Rattle.gmp_crc8.specs.Claims.{budget}
 use Rattle.gmp_settings.specs.declared.Settings.{Settings}
 use Rattle.refusals.specs.Table.{accepted}
 use Rattle.gmp_standing.specs.declared.Count.the-variants.{Known, Unknown}
@@ -87,15 +88,18 @@ pub record NotFalse (sent : List SourceStep) (n : ℕ) (calls : List SinkCall) :
   pub count : (sinkEnd newSink calls .count ≡ Unknown) ⊎ ((x : SourceStep) × Nth sent n x × (sinkEnd newSink calls .count ≡ Known (countOf x)))
   pub none : sinkSteps newSink calls ≡ [] → sinkEnd newSink calls .count ≡ Unknown
 
--- The second claim: "For every source run, every m and every sink run of a new sink from frame m in
--- which no frame read has more than" so many "wrong control bits".
-abbrev pub NoFalseCount : ℕ → Type 0
-NoFalseCount most =
-    (s : Settings) (source : SourceState) (calls : List SourceCall) → SourceRun s source calls
+-- The second claim, for settings with mending or without: "For every source run, every m and every
+-- sink run of a new sink from frame m in which no frame read has more than" so many "wrong control
+-- bits".
+abbrev pub NoFalseCount : Bool → ℕ → Type 0
+NoFalseCount mending most =
+    (s : Settings) → s .mending ≡ mending → (source : SourceState) (calls : List SourceCall) → SourceRun s source calls
     → (m n : ℕ) (reader : List SinkCall) → Reads s (sourceSteps source calls) (AtMostWrong most s) m n newSink reader
     → NotFalse (sourceSteps source calls) n reader
 
--- three wrong bits: the budget of the check
+-- The budget of the check: three wrong bits, as in 01; and with mending on 02, P1: "the guarantee
+-- against false counts covers two wrong bits a frame, no longer three; recovery after two unharmed
+-- frames is as before".
 pub record Demand3 : Type 0 where
   pub recovery : Recovery
-  pub no-false-count : NoFalseCount budget
+  pub no-false-count : (mending : Bool) → NoFalseCount mending (budget mending)

@@ -2,6 +2,7 @@
 -- contracts make such runs. Assumes nothing.
 pub mod Runs
 pub mod Demand
+pub mod Mended
 pub mod Tallied
 pub mod Observed
 pub mod Lent

@@ -24,7 +24,7 @@ use Rattle.card_sink.specs.declared.Counted.{Counted}
 use Rattle.card_sink.specs.Card.{CallPromise}
 use Rattle.card_sink.proofs.count_call.Reads as count-reading
 use Rattle.card_sink.proofs.lend_call.Reads as lend-reading
-use Rattle.claim_recovery.specs.Runs.{SourceCall, SinkCall, SourceStep, SinkStep, refusalOf, sourceSteps, sinkSteps, sinkEnd, frameOf, answerOf, handedOf, outOf}
+use Rattle.claim_recovery.specs.Runs.{SourceCall, SinkCall, SourceStep, SinkStep, refusalOf, sourceSteps, sinkSteps, sinkEnd, frameOf, answerOf, mendedOf, handedOf, outOf}
 use Rattle.claim_recovery.specs.Tallied.{tallyEnd}
 
 -- a call of the source: it returned the result, left the frame buffer so, and kept its promise
@@ -97,8 +97,9 @@ pub record ContractsPromise : Type 0 where
       → CallPromise s z (frame .now) (buffer .now) y (r .result) out (r .tally)
 
 -- Calls that keep their promises go as the definitions go. The accepted calls of a run are its
--- steps, each answers and leaves in its buffer what the step does, and the last state is that of
--- the run. The tally after the calls of all sinks of a card is that of their steps.
+-- steps, each answers, says of mending and leaves in its buffer what the step does, and the last
+-- state is that of the run. The tally after the calls of all sinks of a card is that of their
+-- steps.
 pub record AsDefined : Type 0 where
   pub contracts : ContractsPromise
   pub source : (z : SourceState) (seen : List SourceSeen) → SourcePassed z seen → sourceTaken seen ≡ sourceSteps z (sourceCalls seen)
@@ -107,6 +108,7 @@ pub record AsDefined : Type 0 where
   pub sink : (z : SinkState) (seen : List SinkSeen) (e : SinkState) → SinkPassed z seen e → sinkTaken seen ≡ sinkSteps z (sinkCalls seen)
   pub end : (z : SinkState) (seen : List SinkSeen) (e : SinkState) → SinkPassed z seen e → e ≡ sinkEnd z (sinkCalls seen)
   pub answer : (c : SinkSeen) → answerMeaning (c .result .answer) ≡ answerOf (c .step)
+  pub mended : (c : SinkSeen) → c .result .mended ≡ mendedOf (c .step)
   pub handed : (c : SinkSeen) → c .result .handed ≡ length (handedOf (c .step))
   pub out : (c : SinkSeen) → c .out ≡ outOf (c .step)
   pub tally : (y : Tally) (seen : List SinkSeen) (t : Tally) → TallyPassed y seen t → t ≡ tallyEnd y (sinkMade seen)

@@ -14,7 +14,7 @@ use Rattle.gmp_standing.specs.Standing.{Finding}
 use Rattle.gmp_source.specs.declared.SourceState.{SourceState}
 use Rattle.gmp_source.specs.Source.{sourceRefusal, sourceState, sourceFrame}
 use Rattle.gmp_sink.specs.declared.SinkState.{SinkState}
-use Rattle.gmp_sink.specs.Sink.{sinkRefusal, sinkAnswer, sinkState, sinkHanded, sinkOut}
+use Rattle.gmp_sink.specs.Sink.{sinkRefusal, sinkAnswer, sinkState, sinkMended, sinkHanded, sinkOut}
 
 -- x is the element at place i of a list, counted from 0
 abbrev pub At : {A : Type 0} → List A → ℕ → A → Type 0
@@ -108,9 +108,13 @@ loadOf x = x .call .client
 abbrev pub countOf : SourceStep → ℕ
 countOf x = x .call .next
 
--- what an accepted sink call answers, the bytes that it hands out, and the output buffer after it
+-- what an accepted sink call answers, whether it mended a bit (02, P1), the bytes that it hands
+-- out, and the output buffer after it
 abbrev pub answerOf : SinkStep → Answer Finding
 answerOf y = sinkAnswer (y .call .settings) (y .state) (y .call .frame) (y .call .out)
+
+abbrev pub mendedOf : SinkStep → Bool
+mendedOf y = sinkMended (y .call .settings) (y .call .frame) (y .call .out)
 
 abbrev pub handedOf : SinkStep → List ℕ
 handedOf y = sinkHanded (y .call .settings) (y .state) (y .call .frame) (y .call .out)

@@ -1,13 +1,26 @@
 // Demand 3 and the other claims over whole runs, each as the contract of a function with an empty
 // body.
 ghost use Rattle.claim_recovery.specs.Demand.{Demand3};
+ghost use Rattle.claim_recovery.specs.Mended.{CostsNothing, SinksOwn};
 ghost use Rattle.claim_recovery.specs.Tallied.{TallySums};
 ghost use Rattle.claim_recovery.specs.Observed.{AsDefined};
 
-// Two unharmed frames find the count from any state, and up to three wrong control bits a frame
-// give no false count.
+// Two unharmed frames find the count from any state, and up to three wrong control bits a frame, or
+// two where mending is on, give no false count.
 pub fn demand_3()
     ensures { λ _. ⌜ Demand3 ⌝ }
+{}
+
+// With mending on, frames with at most one wrong control bit, their other bytes unharmed, are
+// delivered as if they were unharmed.
+pub fn mending_costs_nothing()
+    ensures { λ _. ⌜ CostsNothing ⌝ }
+{}
+
+// Sources do not look at mending, so the claims hold of a sink that mends behind a source whose
+// settings say nothing of it.
+pub fn mending_is_the_sinks()
+    ensures { λ _. ⌜ SinksOwn ⌝ }
 {}
 
 // The card's tally is the sum over the accepted calls of all its sinks.

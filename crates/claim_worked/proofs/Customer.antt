@@ -1,10 +1,12 @@
 -- The run with a customer's patterns, by computing the definitions. Assumes nothing.
 use mathlib.Core.Path.{_≡_, refl}
-use mathlib.Core.Bool.{xor}
+use mathlib.Core.Bool.{false, xor}
 use lib.Dec.{lit≤}
 use Rattle.math.specs.Bits.{bits, differing}
 use Rattle.gmp_crc8.specs.Division.{reduce, divide}
-use Rattle.gmp_crc8.specs.Check.{remainder, passes, word, budget}
+use Rattle.gmp_crc8.specs.Check.{remainder, passes, word}
+use Rattle.gmp_crc8.specs.Reading.{readAs}
+use Rattle.gmp_crc8.specs.Claims.{budget}
 use Rattle.gmp_settings.specs.Settings.{outside}
 use Rattle.gmp_standing.specs.Known.{inWindow}
 use Rattle.gmp_control.specs.Word.{equalIndicators}
@@ -21,7 +23,7 @@ use Rattle.claim_worked.specs.Customer.{theirs, begun, sendings, theirNe
 use Rattle.claim_worked.proofs.Build.{all-nth, reads-by}
 
 their-run : SourceRun theirs begun sendings
-unfolding sourceSteps sinkSteps sinkEnd sourceRefusal sourceState sourceFrame newSource startRefusal written controlBytes announced frame row tabulate placed places remainder divide reduce bits outside sinkRefusal sinkAnswer sinkState sinkHanded sinkOut handed standingAfter stateAfter controlOf foundBy reading inWindow usable tracked candidate paired equalIndicators passes clientBytes chosen payload columns word differing xor tableOf
+unfolding sourceSteps sinkSteps sinkEnd sourceRefusal sourceState sourceFrame newSource startRefusal written controlBytes announced frame row tabulate placed places remainder divide reduce bits outside sinkRefusal sinkAnswer sinkState sinkHanded sinkOut handed standingAfter stateAfter controlOf foundBy reading inWindow usable tracked candidate paired equalIndicators passes readAs clientBytes chosen payload columns word differing xor tableOf
 their-run =
     record {
       made-with = theirs;
@@ -32,7 +34,7 @@ their-run =
     }
 
 pub customer-run : CustomerRun
-unfolding sourceSteps sinkSteps sinkEnd sourceRefusal sourceState sourceFrame newSource startRefusal written controlBytes announced frame row tabulate placed places remainder divide reduce bits outside sinkRefusal sinkAnswer sinkState sinkHanded sinkOut handed standingAfter stateAfter controlOf foundBy reading inWindow usable tracked candidate paired equalIndicators passes clientBytes chosen payload columns word differing xor tableOf
+unfolding sourceSteps sinkSteps sinkEnd sourceRefusal sourceState sourceFrame newSource startRefusal written controlBytes announced frame row tabulate placed places remainder divide reduce bits outside sinkRefusal sinkAnswer sinkState sinkHanded sinkOut handed standingAfter stateAfter controlOf foundBy reading inWindow usable tracked candidate paired equalIndicators passes readAs clientBytes chosen payload columns word differing xor tableOf
 customer-run =
     record {
       source-run = their-run;
@@ -45,7 +47,7 @@ customer-run =
           (refl, (refl, (refl, (refl, (refl, tt))))) refl;
       lost-answers = refl;
       lost-holds = refl;
-      noisy-reads = reads-by theirs (sourceSteps begun sendings) (AtMostWrong budget theirs) 2 5 newSink theirNoisy (lit≤ tt) (refl, (refl, (refl, (refl, tt))))
+      noisy-reads = reads-by theirs (sourceSteps begun sendings) (AtMostWrong (budget false) theirs) 2 5 newSink theirNoisy (lit≤ tt) (refl, (refl, (refl, (refl, tt))))
           (lit≤ tt, (lit≤ tt, (lit≤ tt, (lit≤ tt, tt)))) refl;
       noisy-answers = refl;
       noisy-holds = refl;

@@ -3,3 +3,4 @@ mod Build
 mod Reading
 mod Run
 mod Customer
+mod Mended

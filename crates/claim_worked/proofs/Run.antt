@@ -10,10 +10,12 @@ use lib.Dec.{lit≤}
 use lib.ListN.{getD}
 use Rattle.math.specs.Bits.{bits, differing}
 use Rattle.gmp_crc8.specs.Division.{reduce, divide}
-use Rattle.gmp_crc8.specs.Check.{remainder, passes, word, budget}
+use Rattle.gmp_crc8.specs.Check.{remainder, passes, syndrome, word}
+use Rattle.gmp_crc8.specs.Reading.{oneBit, firstWith, wrongBit, mended, readAs}
+use Rattle.gmp_crc8.specs.Claims.{budget}
 use Rattle.gmp_settings.specs.declared.Settings.{Settings}
 use Rattle.refusals.specs.Table.{Answer, accepted, refused}
-use Rattle.gmp_settings.specs.Settings.{outside}
+use Rattle.gmp_settings.specs.Settings.{withMending, outside}
 use Rattle.gmp_standing.specs.declared.Count.the-variants.{Known, Unknown}
 use Rattle.gmp_standing.specs.Standing.{Finding, finding, READ, TRACKED, PAIRED, BADCHECK, WAITING}
 use Rattle.gmp_standing.specs.Known.{inWindow}
@@ -35,7 +37,7 @@ use Rattle.claim_worked.specs.Run.{small, source, calls, send, room, fra
 use Rattle.claim_worked.proofs.Build.{all-nth, reads-by}
 
 run : SourceRun small source calls
-unfolding sourceSteps sinkSteps sinkEnd sourceRefusal sourceState sourceFrame newSource startRefusal written controlBytes announced frame row tabulate placed places remainder divide reduce bits outside sinkRefusal sinkAnswer sinkState sinkHanded sinkOut handed standingAfter stateAfter controlOf foundBy reading inWindow usable tracked candidate paired equalIndicators passes clientBytes chosen payload columns word differing xor tableOf
+unfolding sourceSteps sinkSteps sinkEnd sourceRefusal sourceState sourceFrame newSource startRefusal written controlBytes announced frame row tabulate placed places remainder divide reduce bits outside sinkRefusal sinkAnswer sinkState sinkHanded sinkOut handed standingAfter stateAfter controlOf foundBy reading inWindow usable tracked candidate paired equalIndicators passes readAs clientBytes chosen payload columns word differing xor tableOf
 run =
     record {
       made-with = small;
@@ -46,7 +48,7 @@ run =
     }
 
 pub worked-run : WorkedRun
-unfolding sourceSteps sinkSteps sinkEnd sourceRefusal sourceState sourceFrame newSource startRefusal written controlBytes announced frame row tabulate placed places remainder divide reduce bits outside sinkRefusal sinkAnswer sinkState sinkHanded sinkOut handed standingAfter stateAfter controlOf foundBy reading inWindow usable tracked candidate paired equalIndicators passes clientBytes chosen payload columns word differing xor tableOf
+unfolding sourceSteps sinkSteps sinkEnd sourceRefusal sourceState sourceFrame newSource startRefusal written controlBytes announced frame row tabulate placed places remainder divide reduce bits outside sinkRefusal sinkAnswer sinkState sinkHanded sinkOut handed standingAfter stateAfter controlOf foundBy reading inWindow usable tracked candidate paired equalIndicators passes readAs clientBytes chosen payload columns word differing xor tableOf
 worked-run =
     record {
       source-run = run;
@@ -59,7 +61,7 @@ worked-run =
           (refl, (refl, (refl, (refl, (refl, tt))))) refl;
       lost-answers = refl;
       lost-holds = refl;
-      noisy-reads = reads-by small (sourceSteps source calls) (AtMostWrong budget small) 2 5 newSink noisy (lit≤ tt) (refl, (refl, (refl, (refl, tt))))
+      noisy-reads = reads-by small (sourceSteps source calls) (AtMostWrong (budget false) small) 2 5 newSink noisy (lit≤ tt) (refl, (refl, (refl, (refl, tt))))
           (lit≤ tt, (lit≤ tt, (lit≤ tt, (lit≤ tt, tt)))) refl;
       noisy-answers = refl;
       noisy-holds = refl;
@@ -70,11 +72,11 @@ abbrev one : List SinkCall
 one = hear small frame1 tt room ∷ []
 
 reads-one : Reads small (sourceSteps source calls) Unharmed 1 1 newSink one
-unfolding sourceSteps sinkSteps sinkEnd sourceRefusal sourceState sourceFrame newSource startRefusal written controlBytes announced frame row tabulate placed places remainder divide reduce bits outside sinkRefusal sinkAnswer sinkState sinkHanded sinkOut handed standingAfter stateAfter controlOf foundBy reading inWindow usable tracked candidate paired equalIndicators passes clientBytes chosen payload columns word differing xor tableOf
+unfolding sourceSteps sinkSteps sinkEnd sourceRefusal sourceState sourceFrame newSource startRefusal written controlBytes announced frame row tabulate placed places remainder divide reduce bits outside sinkRefusal sinkAnswer sinkState sinkHanded sinkOut handed standingAfter stateAfter controlOf foundBy reading inWindow usable tracked candidate paired equalIndicators passes readAs clientBytes chosen payload columns word differing xor tableOf
 reads-one = reads-by small (sourceSteps source calls) Unharmed 1 1 newSink one (lit≤ tt) (refl, tt) (refl, tt) refl
 
 waits : (n : ℕ) → sinkEnd newSink one .count ≡ Known n → ⊥
-unfolding sourceSteps sinkSteps sinkEnd sourceRefusal sourceState sourceFrame newSource startRefusal written controlBytes announced frame row tabulate placed places remainder divide reduce bits outside sinkRefusal sinkAnswer sinkState sinkHanded sinkOut handed standingAfter stateAfter controlOf foundBy reading inWindow usable tracked candidate paired equalIndicators passes clientBytes chosen payload columns word differing xor tableOf
+unfolding sourceSteps sinkSteps sinkEnd sourceRefusal sourceState sourceFrame newSource startRefusal written controlBytes announced frame row tabulate placed places remainder divide reduce bits outside sinkRefusal sinkAnswer sinkState sinkHanded sinkOut handed standingAfter stateAfter controlOf foundBy reading inWindow usable tracked candidate paired equalIndicators passes readAs clientBytes chosen payload columns word differing xor tableOf
 waits n e = let z : _≡_ {A = ℕ} 0 1 = cc in omega arith
 
 not-after-one : HoldsAfter 0 → ⊥
@@ -85,11 +87,11 @@ abbrev two : List SinkCall
 two = hear small frame1 tt room ∷ hear small frame2 tt room ∷ []
 
 reads-two : Reads small (sourceSteps source calls) Unharmed 1 2 newSink two
-unfolding sourceSteps sinkSteps sinkEnd sourceRefusal sourceState sourceFrame newSource startRefusal written controlBytes announced frame row tabulate placed places remainder divide reduce bits outside sinkRefusal sinkAnswer sinkState sinkHanded sinkOut handed standingAfter stateAfter controlOf foundBy reading inWindow usable tracked candidate paired equalIndicators passes clientBytes chosen payload columns word differing xor tableOf
+unfolding sourceSteps sinkSteps sinkEnd sourceRefusal sourceState sourceFrame newSource startRefusal written controlBytes announced frame row tabulate placed places remainder divide reduce bits outside sinkRefusal sinkAnswer sinkState sinkHanded sinkOut handed standingAfter stateAfter controlOf foundBy reading inWindow usable tracked candidate paired equalIndicators passes readAs clientBytes chosen payload columns word differing xor tableOf
 reads-two = reads-by small (sourceSteps source calls) Unharmed 1 2 newSink two (lit≤ tt) (refl, (refl, tt)) (refl, (refl, tt)) refl
 
 pairs : (y : SinkStep) → Nth (sinkSteps newSink two) 2 y → answerOf y ≡ accepted (finding PAIRED (Known 6))
-unfolding sourceSteps sinkSteps sinkEnd sourceRefusal sourceState sourceFrame newSource startRefusal written controlBytes announced frame row tabulate placed places remainder divide reduce bits outside sinkRefusal sinkAnswer sinkState sinkHanded sinkOut handed standingAfter stateAfter controlOf foundBy reading inWindow usable tracked candidate paired equalIndicators passes clientBytes chosen payload columns word differing xor tableOf
+unfolding sourceSteps sinkSteps sinkEnd sourceRefusal sourceState sourceFrame newSource startRefusal written controlBytes announced frame row tabulate placed places remainder divide reduce bits outside sinkRefusal sinkAnswer sinkState sinkHanded sinkOut handed standingAfter stateAfter controlOf foundBy reading inWindow usable tracked candidate paired equalIndicators passes readAs clientBytes chosen payload columns word differing xor tableOf
 pairs y e = ap answerOf (sym e) ∙ refl
 
 -- the names begin with different letters
@@ -106,55 +108,65 @@ not-from-second h =
     let w = h small source calls run 1 2 (lit≤ tt) two reads-two 2 (lit≤ tt) (lit≤ tt) in
     not-paired (equalFrame (w .0)) (countOf (w .0)) (answerOf (w .1)) (pairs (w .1) (w .3)) (w .4 .standing)
 
--- Four wrong control bits make a false count: 00 00 00 is lent as 00 10 D0.
+-- Wrong control bits make a false count: 00 00 00 is lent as 00 10 D0, which passes, with four; and
+-- with mending on as 00 10 C0, which is mended to it, with three.
 abbrev quiet : SourceState
 quiet = record { count = 0; multiframe = 0; «payload_type» = 0 }
 
-abbrev silence : List SourceCall
-silence = send small 0 [] ∷ []
+abbrev with-flag : Bool → Settings
+with-flag mending = withMending small mending
 
-abbrev harmed : List ℕ
-harmed = 0 ∷ 0 ∷ 0 ∷ 0 ∷ 0 ∷ 16 ∷ 0 ∷ 0 ∷ 0 ∷ 208 ∷ 0 ∷ 0 ∷ 0 ∷ 0 ∷ 0 ∷ 0 ∷ []
+abbrev silence : Bool → List SourceCall
+silence mending = send (with-flag mending) 0 [] ∷ []
 
-quiet-run : SourceRun small quiet silence
-unfolding sourceSteps sinkSteps sinkEnd sourceRefusal sourceState sourceFrame newSource startRefusal written controlBytes announced frame row tabulate placed places remainder divide reduce bits outside sinkRefusal sinkAnswer sinkState sinkHanded sinkOut handed standingAfter stateAfter controlOf foundBy reading inWindow usable tracked candidate paired equalIndicators passes clientBytes chosen payload columns word differing xor tableOf
-quiet-run =
+abbrev harmed : ℕ → List ℕ
+harmed jc3 = 0 ∷ 0 ∷ 0 ∷ 0 ∷ 0 ∷ 16 ∷ 0 ∷ 0 ∷ 0 ∷ jc3 ∷ 0 ∷ 0 ∷ 0 ∷ 0 ∷ 0 ∷ 0 ∷ []
+
+abbrev deceived : Bool → List SinkCall
+deceived true = hear (with-flag true) (harmed 0xC0) tt room ∷ []
+deceived false = hear (with-flag false) (harmed 0xD0) tt room ∷ []
+
+quiet-run : (mending : Bool) → SourceRun (with-flag mending) quiet (silence mending)
+unfolding sourceSteps sinkSteps sinkEnd sourceRefusal sourceState sourceFrame newSource startRefusal written controlBytes announced frame row tabulate placed places remainder divide reduce bits outside sinkRefusal sinkAnswer sinkState sinkHanded sinkOut handed standingAfter stateAfter controlOf foundBy reading inWindow usable tracked candidate paired equalIndicators passes readAs mended wrongBit firstWith oneBit syndrome clientBytes chosen payload columns word differing xor tableOf
+quiet-run mending =
     record {
-      made-with = small;
+      made-with = with-flag mending;
       first = 0;
       payload-type = 0;
       made = refl;
-      shared = all-nth (λ (x : SourceStep). x .call .settings ≡ small) (sourceSteps quiet silence) (refl, tt);
+      shared = all-nth (λ (x : SourceStep). x .call .settings ≡ with-flag mending) (sourceSteps quiet (silence mending)) (refl, tt);
     }
 
-abbrev deceived : List SinkCall
-deceived = hear small harmed tt room ∷ []
+reads-harmed : (mending : Bool)
+    → Reads (with-flag mending) (sourceSteps quiet (silence mending)) (AtMostWrong (budget mending + 1) (with-flag mending)) 1 1 newSink (deceived mending)
+unfolding sourceSteps sinkSteps sinkEnd sourceRefusal sourceState sourceFrame newSource startRefusal written controlBytes announced frame row tabulate placed places remainder divide reduce bits outside sinkRefusal sinkAnswer sinkState sinkHanded sinkOut handed standingAfter stateAfter controlOf foundBy reading inWindow usable tracked candidate paired equalIndicators passes readAs mended wrongBit firstWith oneBit syndrome clientBytes chosen payload columns word differing xor tableOf
+reads-harmed true =
+    reads-by (with-flag true) (sourceSteps quiet (silence true)) (AtMostWrong (budget true + 1) (with-flag true)) 1 1 newSink (deceived true) (lit≤ tt) (refl, tt) (lit≤ tt, tt) refl
+reads-harmed false =
+    reads-by (with-flag false) (sourceSteps quiet (silence false)) (AtMostWrong (budget false + 1) (with-flag false)) 1 1 newSink (deceived false) (lit≤ tt) (refl, tt) (lit≤ tt, tt) refl
 
-reads-harmed : Reads small (sourceSteps quiet silence) (AtMostWrong (budget + 1) small) 1 1 newSink deceived
-unfolding sourceSteps sinkSteps sinkEnd sourceRefusal sourceState sourceFrame newSource startRefusal written controlBytes announced frame row tabulate placed places remainder divide reduce bits outside sinkRefusal sinkAnswer sinkState sinkHanded sinkOut handed standingAfter stateAfter controlOf foundBy reading inWindow usable tracked candidate paired equalIndicators passes clientBytes chosen payload columns word differing xor tableOf
-reads-harmed = reads-by small (sourceSteps quiet silence) (AtMostWrong (budget + 1) small) 1 1 newSink deceived (lit≤ tt) (refl, tt) (lit≤ tt, tt) refl
+false-count : (mending : Bool) → sinkEnd newSink (deceived mending) .count ≡ Known 4
+unfolding sourceSteps sinkSteps sinkEnd sourceRefusal sourceState sourceFrame newSource startRefusal written controlBytes announced frame row tabulate placed places remainder divide reduce bits outside sinkRefusal sinkAnswer sinkState sinkHanded sinkOut handed standingAfter stateAfter controlOf foundBy reading inWindow usable tracked candidate paired equalIndicators passes readAs mended wrongBit firstWith oneBit syndrome clientBytes chosen payload columns word differing xor tableOf
+false-count true = refl
+false-count false = refl
 
-false-count : sinkEnd newSink deceived .count ≡ Known 4
-unfolding sourceSteps sinkSteps sinkEnd sourceRefusal sourceState sourceFrame newSource startRefusal written controlBytes announced frame row tabulate placed places remainder divide reduce bits outside sinkRefusal sinkAnswer sinkState sinkHanded sinkOut handed standingAfter stateAfter controlOf foundBy reading inWindow usable tracked candidate paired equalIndicators passes clientBytes chosen payload columns word differing xor tableOf
-false-count = refl
+count-zero : (mending : Bool) (x : SourceStep) → Nth (sourceSteps quiet (silence mending)) 1 x → countOf x ≡ 0
+unfolding sourceSteps sinkSteps sinkEnd sourceRefusal sourceState sourceFrame newSource startRefusal written controlBytes announced frame row tabulate placed places remainder divide reduce bits outside sinkRefusal sinkAnswer sinkState sinkHanded sinkOut handed standingAfter stateAfter controlOf foundBy reading inWindow usable tracked candidate paired equalIndicators passes readAs mended wrongBit firstWith oneBit syndrome clientBytes chosen payload columns word differing xor tableOf
+count-zero mending x e = ap countOf (sym e)
 
-count-zero : (x : SourceStep) → Nth (sourceSteps quiet silence) 1 x → countOf x ≡ 0
-unfolding sourceSteps sinkSteps sinkEnd sourceRefusal sourceState sourceFrame newSource startRefusal written controlBytes announced frame row tabulate placed places remainder divide reduce bits outside sinkRefusal sinkAnswer sinkState sinkHanded sinkOut handed standingAfter stateAfter controlOf foundBy reading inWindow usable tracked candidate paired equalIndicators passes clientBytes chosen payload columns word differing xor tableOf
-count-zero x e = ap countOf (sym e)
-
-not-with-four : NoFalseCount (budget + 1) → ⊥
-not-with-four h = ⊎-elim none some (h small quiet silence quiet-run 1 1 deceived reads-harmed .count)
+not-with-more : (mending : Bool) → NoFalseCount mending (budget mending + 1) → ⊥
+not-with-more mending h = ⊎-elim none some (h (with-flag mending) refl quiet (silence mending) (quiet-run mending) 1 1 (deceived mending) (reads-harmed mending) .count)
   where
-    none : sinkEnd newSink deceived .count ≡ Unknown → ⊥
-    none e = let f = false-count in let z : _≡_ {A = ℕ} 0 1 = cc in omega arith
+    none : sinkEnd newSink (deceived mending) .count ≡ Unknown → ⊥
+    none e = let f = false-count mending in let z : _≡_ {A = ℕ} 0 1 = cc in omega arith
 
-    some : (x : SourceStep) × Nth (sourceSteps quiet silence) 1 x × (sinkEnd newSink deceived .count ≡ Known (countOf x)) → ⊥
+    some : (x : SourceStep) × Nth (sourceSteps quiet (silence mending)) 1 x × (sinkEnd newSink (deceived mending) .count ≡ Known (countOf x)) → ⊥
     some w =
-        let f = false-count in
-        let g = count-zero (w .0) (w .1) in
+        let f = false-count mending in
+        let g = count-zero mending (w .0) (w .1) in
         let k = w .2 in
         let z : 4 ≡ countOf (w .0) = cc in
         omega arith
 
 pub no-less : NoLess
-no-less = record { one-frame = not-after-one; second-frame = not-from-second; one-bit-more = not-with-four }
+no-less = record { one-frame = not-after-one; second-frame = not-from-second; one-bit-more = not-with-more }

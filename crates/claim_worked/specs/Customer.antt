@@ -3,9 +3,10 @@
 -- by a new sink over a hit; calls that number 14 turns back stand in all. A sink with 01's patterns
 -- does not find the count. Assumes nothing.
 use mathlib.Core.Path.{_≡_}
+use mathlib.Core.Bool.{false}
 use mathlib.Core.List.{List, [], _∷_}
 use Prim.Native.Nat.{ℕ}
-use Rattle.gmp_crc8.specs.Check.{budget}
+use Rattle.gmp_crc8.specs.Claims.{budget}
 use Rattle.gmp_settings.specs.declared.Settings.{Settings}
 use Rattle.gmp_settings.specs.Settings.{withPatterns}
 use Rattle.gmp_settings.specs.Worked.{customer, oneBitWrong}
@@ -118,7 +119,7 @@ pub record CustomerRun : Type 0 where
   pub lost-reads : Reads theirs (sourceSteps begun sendings) Unharmed 2 6 theirLost theirAny
   pub lost-answers : answers (sinkSteps theirLost theirAny) ≡ silent WAITING ∷ says PAIRED 3 ∷ says TRACKED 4 ∷ says READ 4 ∷ says READ 0 ∷ []
   pub lost-holds : sinkEnd theirLost theirAny .count ≡ Known 0
-  pub noisy-reads : Reads theirs (sourceSteps begun sendings) (AtMostWrong budget theirs) 2 5 newSink theirNoisy
+  pub noisy-reads : Reads theirs (sourceSteps begun sendings) (AtMostWrong (budget false) theirs) 2 5 newSink theirNoisy
   pub noisy-answers : answers (sinkSteps newSink theirNoisy) ≡ silent WAITING ∷ silent BADCHECK ∷ silent WAITING ∷ says READ 4 ∷ []
   pub noisy-holds : sinkEnd newSink theirNoisy .count ≡ Known 4
   pub ours-answers : answers (sinkSteps newSink ours) ≡ silent WAITING ∷ silent WAITING ∷ silent WAITING ∷ silent WAITING ∷ []

@@ -1,9 +1,10 @@
--- Demand 3 with numbers of frames and wrong bits that are open: 2, 1 and 3 are demand 3 itself.
--- Assumes nothing.
+-- Demand 3 with numbers of frames and wrong bits that are open: 2, 1 and the budget of the check
+-- are demand 3 itself. Assumes nothing.
 use mathlib.Core.Path.{_≡_}
+use mathlib.Core.Bool.{Bool}
 use mathlib.Core.List.{List}
 use Prim.Native.Nat.{ℕ, _+_, _-_, _≤_}
-use Rattle.gmp_crc8.specs.Check.{budget}
+use Rattle.gmp_crc8.specs.Claims.{budget}
 use Rattle.gmp_settings.specs.declared.Settings.{Settings}
 use Rattle.gmp_standing.specs.declared.Count.the-variants.{Known}
 use Rattle.gmp_source.specs.declared.SourceState.{SourceState}
@@ -29,8 +30,8 @@ DeliversAfter gap =
     → (i : ℕ) → m + gap ≤ i → i ≤ n → (x : SourceStep) × (y : SinkStep) × Nth (sourceSteps source calls) i x × Nth (sinkSteps newSink reader) (i + 1 - m) y × Delivers x y
 
 -- After one frame a sink need not hold the count; frame m + 1 need not be delivered; four wrong
--- bits can give a false count.
+-- bits can give a false count, and with mending on three can.
 pub record NoLess : Type 0 where
   pub one-frame : HoldsAfter 0 → ⊥
   pub second-frame : DeliversAfter 1 → ⊥
-  pub one-bit-more : NoFalseCount (budget + 1) → ⊥
+  pub one-bit-more : (mending : Bool) → NoFalseCount mending (budget mending + 1) → ⊥

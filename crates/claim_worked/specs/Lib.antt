@@ -2,5 +2,6 @@
 pub mod Starred
 pub mod Run
 pub mod Customer
+pub mod Mended
 pub mod Readable
 pub mod Less

@@ -6,7 +6,7 @@ use mathlib.Core.Bool.{Bool, true, false, cond}
 use mathlib.Core.List.{List, [], _∷_}
 use Prim.Native.Nat.{ℕ, _<_}
 use lib.Dec.{T, ltb, ltb→lt}
-use Rattle.gmp_crc8.specs.Check.{budget}
+use Rattle.gmp_crc8.specs.Claims.{budget}
 use Rattle.gmp_settings.specs.declared.Settings.{Settings}
 use Rattle.gmp_settings.specs.Settings.{newSettings}
 use Rattle.refusals.specs.Table.{Answer, accepted}
@@ -153,6 +153,6 @@ pub record WorkedRun : Type 0 where
   pub lost-reads : Reads small (sourceSteps source calls) Unharmed 2 6 lost fromAny
   pub lost-answers : answers (sinkSteps lost fromAny) ≡ silent WAITING ∷ says PAIRED 5 ∷ says TRACKED 3 ∷ says READ 3 ∷ says READ 7 ∷ []
   pub lost-holds : sinkEnd lost fromAny .count ≡ Known 7
-  pub noisy-reads : Reads small (sourceSteps source calls) (AtMostWrong budget small) 2 5 newSink noisy
+  pub noisy-reads : Reads small (sourceSteps source calls) (AtMostWrong (budget false) small) 2 5 newSink noisy
   pub noisy-answers : answers (sinkSteps newSink noisy) ≡ silent WAITING ∷ silent BADCHECK ∷ silent WAITING ∷ says READ 3 ∷ []
   pub noisy-holds : sinkEnd newSink noisy .count ≡ Known 3

@@ -2,6 +2,7 @@
 ghost use Rattle.claim_worked.specs.Starred.{AllHold, starred};
 ghost use Rattle.claim_worked.specs.Run.{WorkedRun};
 ghost use Rattle.claim_worked.specs.Customer.{CustomerRun};
+ghost use Rattle.claim_worked.specs.Mended.{MendedRun};
 ghost use Rattle.claim_worked.specs.Readable.{Readable};
 ghost use Rattle.claim_worked.specs.Less.{NoLess};
 
@@ -20,13 +21,18 @@ pub fn customer_run()
     ensures { λ _. ⌜ CustomerRun ⌝ }
 {}
 
+// The same frames, some with wrong control bits, with mending on and with mending off.
+pub fn mended_run()
+    ensures { λ _. ⌜ MendedRun ⌝ }
+{}
+
 // Every source run can be read by any sink, from any frame up to any later one.
 pub fn readable_runs()
     ensures { λ _. ⌜ Readable ⌝ }
 {}
 
 // One frame does not find the count, the second is not yet delivered, and four wrong bits can make
-// it false.
+// it false, as three can with mending on.
 pub fn no_less()
     ensures { λ _. ⌜ NoLess ⌝ }
 {}

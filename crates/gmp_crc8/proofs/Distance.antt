@@ -1,18 +1,18 @@
--- The distance of the check: two words that pass and differ in at most `budget` of their 24 bits
--- are the same. The remainders of two words differ by the remainder of their difference, so one
+-- The distance of the check: two words that pass and differ in at most three of their 24 bits are
+-- the same. The remainders of two words differ by the remainder of their difference, so one
 -- test runs over the differences: at most so many bits apart, from the first on. Assumes nothing.
 use mathlib.Core.Path.{_≡_, refl, sym, ap, ap₂, _∙_, subst, subst⁻¹}
 use mathlib.Core.Bool.{Bool, true, false, not, _&&_, xor}
 use mathlib.Core.List.{List, [], _∷_, _++_}
 use Prim.Native.Nat.{ℕ, zero, suc, _+_, _*_, _-_, _≤_, _<_}
 use native.Mathlib.Omega.{arith}
-use lib.Bits.{bitXor, xor-self}
+use lib.Bits.{bitXor, xor-self, xor-comm}
 use lib.Dec.{T, eqb, eqb→eq, T-not, lit<}
 use lib.ListN.{length, take, drop}
 use Rattle.math.specs.Finite.{both-left, both-right}
 use Rattle.math.specs.Bits.{digit, bits, differing}
 use Rattle.gmp_crc8.specs.Division.{reduce, divide}
-use Rattle.gmp_crc8.specs.Check.{remainder, passes, word, wrongBits, budget}
+use Rattle.gmp_crc8.specs.Check.{remainder, passes, syndrome, word, wrongBits}
 use Rattle.gmp_crc8.proofs.Linear.{step-xor, step-lt, divide-lt, divide-append, divide-bits, divide-byte}
 
 -- of two divisions whose remainders differ by d, n digits before the end: at most k further
@@ -22,22 +22,25 @@ apart zero k d = not (eqb d 0)
 apart (suc n) zero d = apart n zero (reduce (d * 2 + 0))
 apart (suc n) (suc k) d = apart n (suc k) (reduce (d * 2 + 0)) && apart n k (reduce (d * 2 + 1))
 
--- the further differences after the first
+-- how many places two words that pass may differ in, and the further ones after the first
+abbrev pub most : ℕ
+most = 3
+
 abbrev further : ℕ
-further = budget - 1
+further = most - 1
 
 -- the first of n digits at which two words differ, and the further differences after it
 apart-from : ℕ → Bool
 apart-from zero = true
 apart-from (suc n) = apart n further 1 && apart-from n
 
--- the computed test: each pattern of one to `budget` wrong bits among 24
+-- the computed test: each pattern of one to three wrong bits among 24
 apart-24 : T (apart-from 24)
 unfolding apart-from apart reduce
 apart-24 = tt
 
 -- two lists of one length
-abbrev Same : List Bool → List Bool → Type 0
+abbrev pub Same : List Bool → List Bool → Type 0
 Same [] [] = Unit {0}
 Same [] (y ∷ ys) = ⊥
 Same (x ∷ xs) [] = ⊥
@@ -65,7 +68,7 @@ far (x ∷ xs) (y ∷ ys) k r s l hr hs t h e =
 
 -- where two words differ for the first time, their remainders stay apart
 differ-at : (xs ys : List Bool) (r : ℕ) (x y : Bool) → xor x y ≡ true → Same xs ys → r < 256 → T (apart (length xs) further 1)
-    → differing (x ∷ xs) (y ∷ ys) ≤ budget → divide r (x ∷ xs) ≡ divide r (y ∷ ys) → ⊥
+    → differing (x ∷ xs) (y ∷ ys) ≤ most → divide r (x ∷ xs) ≡ divide r (y ∷ ys) → ⊥
 unfolding divide differing reduce
 differ-at xs ys r x y u l hr t h e =
     far xs ys further (reduce (r * 2 + digit x)) (reduce (r * 2 + digit y)) l (step-lt r x hr) (step-lt r y hr)
@@ -74,7 +77,7 @@ differ-at xs ys r x y u l hr t h e =
     (omega (arith, ap digit u)) e
 
 near : (xs ys : List Bool) (r : ℕ) → Same xs ys → r < 256 → T (apart-from (length xs))
-    → differing xs ys ≤ budget → divide r xs ≡ divide r ys → xs ≡ ys
+    → differing xs ys ≤ most → divide r xs ≡ divide r ys → xs ≡ ys
 unfolding divide differing apart-from xor
 near [] [] r l hr t h e = refl
 near [] (y ∷ ys) r l hr t h e = absurd l
@@ -90,13 +93,12 @@ near (true ∷ xs) (false ∷ ys) r l hr t h e =
 near (false ∷ xs) (true ∷ ys) r l hr t h e =
     absurd (differ-at xs ys r false true refl l hr (both-left (apart (length xs) further 1) (apart-from (length xs)) t) h e)
 
--- a word that passes is a multiple of the generator
-divides : (a b c : ℕ) → c < 256 → T (passes a b c) → divide 0 (word a b c) ≡ 0
-unfolding passes remainder word
-divides a b c hc t =
+-- what is left of the 24 bits is the remainder of the three bytes as read
+pub divided : (a b c : ℕ) → c < 256 → divide 0 (word a b c) ≡ syndrome a b c
+unfolding remainder syndrome word
+divided a b c hc =
     split c ∙ divide-byte r c (divide-lt (bits b) (divide 0 (bits a)) (divide-lt (bits a) 0 (lit< tt))) hc
-    ∙ ap (bitXor (divide r (bits 0))) (eqb→eq c (remainder a b) t ∙ split 0)
-    ∙ xor-self (divide r (bits 0))
+    ∙ xor-comm (divide r (bits 0)) c ∙ ap (bitXor c) (sym (split 0))
   where
     r : ℕ
     r = divide (divide 0 (bits a)) (bits b)
@@ -104,15 +106,21 @@ divides a b c hc t =
     split : (x : ℕ) → divide 0 (bits a ++ (bits b ++ bits x)) ≡ divide r (bits x)
     split x = divide-append (bits a) (bits b ++ bits x) 0 ∙ divide-append (bits b) (bits x) (divide 0 (bits a))
 
+-- a word that passes has none
+pub passed-none : (a b c : ℕ) → T (passes a b c) → syndrome a b c ≡ 0
+unfolding passes syndrome
+passed-none a b c t = ap (λ (x : ℕ). bitXor x (remainder a b)) (eqb→eq c (remainder a b) t) ∙ xor-self (remainder a b)
+
 bits-same : (a b : ℕ) → a < 256 → b < 256 → bits a ≡ bits b → a ≡ b
 bits-same a b ha hb e = sym (divide-bits a ha) ∙ ap (divide 0) e ∙ divide-bits b hb
 
 pub distance : (a b c x y z : ℕ) → (a < 256) × (b < 256) × (c < 256) → (x < 256) × (y < 256) × (z < 256)
-    → T (passes a b c) → T (passes x y z) → wrongBits a b c x y z ≤ budget → (x ≡ a) × (y ≡ b) × (z ≡ c)
+    → T (passes a b c) → T (passes x y z) → wrongBits a b c x y z ≤ most → (x ≡ a) × (y ≡ b) × (z ≡ c)
 unfolding bits word
 distance a b c x y z u v p q h =
     let e : word a b c ≡ word x y z =
-    near (word a b c) (word x y z) 0 tt (lit< tt) apart-24 h (divides a b c (u .2) p ∙ sym (divides x y z (v .2) q)) in (
+    near (word a b c) (word x y z) 0 tt (lit< tt) apart-24 h
+    (divided a b c (u .2) ∙ passed-none a b c p ∙ sym (divided x y z (v .2) ∙ passed-none x y z q)) in (
       sym (bits-same a x (u .0) (v .0) (ap (take 8) e)),
       sym (bits-same b y (u .1) (v .1) (ap (λ (l : List Bool). take 8 (drop 8 l)) e)),
       sym (bits-same c z (u .2) (v .2) (ap (drop 16) e)),

@@ -1,3 +1,4 @@
 pub mod Linear
 pub mod Distance
+pub mod Mending
 pub mod Laws

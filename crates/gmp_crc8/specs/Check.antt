@@ -1,10 +1,9 @@
 -- The check (01, "Control word"; clause 17.7.1): JC3 is the remainder of JC1 and JC2, and a word
 -- passes if its JC3 is that. Assumes nothing.
-use mathlib.Core.Path.{_≡_}
-use mathlib.Core.Bool.{Bool, true, false}
+use mathlib.Core.Bool.{Bool}
 use mathlib.Core.List.{List, _++_}
-use mathlib.Core.Logic.{_⊎_}
-use Prim.Native.Nat.{ℕ, _≤_, _<_}
+use Prim.Native.Nat.{ℕ}
+use lib.Bits.{bitXor}
 use lib.Dec.{eqb}
 use Rattle.math.specs.Bits.{bits, differing}
 use Rattle.gmp_crc8.specs.Division.{divide}
@@ -17,6 +16,11 @@ remainder jc1 jc2 = divide 0 (bits jc1 ++ (bits jc2 ++ bits 0))
 unfoldable pub passes : ℕ → ℕ → ℕ → Bool
 passes jc1 jc2 jc3 = eqb jc3 (remainder jc1 jc2)
 
+-- the remainder of the three bytes as read, which 02, P1 calls their remainder: zero where they
+-- pass
+unfoldable pub syndrome : ℕ → ℕ → ℕ → ℕ
+syndrome jc1 jc2 jc3 = bitXor jc3 (remainder jc1 jc2)
+
 -- the 24 bits of JC1 to JC3
 unfoldable pub word : ℕ → ℕ → ℕ → List Bool
 word jc1 jc2 jc3 = bits jc1 ++ (bits jc2 ++ bits jc3)
@@ -24,14 +28,3 @@ word jc1 jc2 jc3 = bits jc1 ++ (bits jc2 ++ bits jc3)
 -- the number of bits of JC1 to JC3, of 24, that differ from the written ones
 abbrev pub wrongBits : (a b c x y z : ℕ) → ℕ
 wrongBits a b c x y z = differing (word a b c) (word x y z)
-
--- how many wrong bits the check is trusted with
-abbrev pub budget : ℕ
-budget = 3
-
--- A word that passes, read with at most so many wrong bits, reads as itself or fails.
-abbrev pub ReadsAsItself : ℕ → Type 0
-ReadsAsItself most =
-    (a b c x y z : ℕ) → (a < 256) × (b < 256) × (c < 256) → (x < 256) × (y < 256) × (z < 256)
-    → passes a b c ≡ true → wrongBits a b c x y z ≤ most
-    → (passes x y z ≡ false) ⊎ ((x ≡ a) × (y ≡ b) × (z ≡ c))

@@ -1,4 +1,6 @@
--- The check of the control word. Assumes nothing.
+-- The check of the control word, and what a word reads as. Assumes nothing.
 pub mod Division
 pub mod Check
+pub mod Reading
+pub mod Claims
 pub mod Worked

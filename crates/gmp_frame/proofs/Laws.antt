@@ -1,15 +1,16 @@
 -- What other crates cite: that a frame gives back what was written to it, and what is left in a
 -- buffer where all fits. Assumes nothing.
-use mathlib.Core.Path.{_≡_, _∙_}
-use mathlib.Core.List.{List, _++_}
-use Prim.Native.Nat.{ℕ, _+_, _*_, _≤_}
+use mathlib.Core.Path.{_≡_, refl, ap, ap₂, _∙_}
+use mathlib.Core.List.{List, [], _∷_, _++_}
+use Prim.Native.Nat.{ℕ, zero, suc, _+_, _*_, _≤_, _<_}
 use native.Mathlib.Omega.{arith}
-use lib.ListN.{length, drop, length-append}
+use lib.ListN.{length, getD, take, drop, length-append}
 use lib.Seq.{take-length}
 use borrow.Author.Tests.{eq-eqb, le-leb}
 use Rattle.gmp_settings.specs.Grid.{payloadBytes, frameBytes}
 use Rattle.gmp_frame.specs.declared.Control.{Control}
-use Rattle.gmp_frame.specs.Frame.{frame, payload, clientBytes, controlOf, frameWritten, clientTaken}
+use Rattle.gmp_frame.specs.Frame.{frame, columns, payload, clientBytes, controlOf, OthersSame, frameWritten, clientTaken}
+use Rattle.gmp_stuffing.specs.Places.{chosen}
 use Rattle.gmp_stuffing.proofs.Steps.{count-all, length-first, chosen-placed}
 use Rattle.gmp_frame.proofs.Rows.{length-row, length-payload, payload-frame, second, row0, row1, row2}
 
@@ -34,6 +35,33 @@ pub client-taken : (k : ℕ) (client : List ℕ) (control : Control) (psi : ℕ)
 unfolding clientBytes
 client-taken k client control psi le =
     rw (payload-frame k client control psi, chosen-placed (4 * k) client le (4 * k) (omega arith), count-all (length client) (4 * k) le, take-length)
+
+-- Two lists of one length that agree at k places from m on have the same bytes there.
+same-first : (k : ℕ) (l l′ : List ℕ) → length l ≡ length l′ → ((i : ℕ) → i < k → getD l i 0 ≡ getD l′ i 0) → take k l ≡ take k l′
+same-first zero l l′ e h = refl
+same-first (suc k) [] [] e h = refl
+same-first (suc k) [] (y ∷ l′) e h = absurd (omega arith)
+same-first (suc k) (x ∷ l) [] e h = absurd (omega arith)
+same-first (suc k) (x ∷ l) (y ∷ l′) e h =
+    ap₂ (λ (b : ℕ) (bs : List ℕ). b ∷ bs) (h 0 (omega arith)) (same-first k l l′ (omega arith) (λ i low. h (suc i) (omega arith)))
+
+same-part : (m k : ℕ) (l l′ : List ℕ) → length l ≡ length l′ → ((i : ℕ) → m ≤ i → i < m + k → getD l i 0 ≡ getD l′ i 0)
+    → take k (drop m l) ≡ take k (drop m l′)
+same-part zero k l l′ e h = same-first k l l′ e (λ i low. h i (omega arith) (omega arith))
+same-part (suc m) k [] [] e h = refl
+same-part (suc m) k [] (y ∷ l′) e h = absurd (omega arith)
+same-part (suc m) k (x ∷ l) [] e h = absurd (omega arith)
+same-part (suc m) k (x ∷ l) (y ∷ l′) e h = same-part m k l l′ (omega arith) (λ i low high. h (suc i) (omega arith) (omega arith))
+
+-- the client bytes do not hang on the control bytes
+pub others-client : (k C : ℕ) (bytes bytes′ : List ℕ) → length bytes ≡ length bytes′ → OthersSame k bytes bytes′ → clientBytes k C bytes ≡ clientBytes k C bytes′
+unfolding clientBytes payload columns
+others-client k C bytes bytes′ e h =
+    let a = same-part (0 * (k + 2) + 2) k bytes bytes′ e (λ i low high. h i (λ z. omega arith) (λ z. omega arith) (λ z. omega arith)) in
+    let b = same-part (1 * (k + 2) + 2) k bytes bytes′ e (λ i low high. h i (λ z. omega arith) (λ z. omega arith) (λ z. omega arith)) in
+    let c = same-part (2 * (k + 2) + 2) k bytes bytes′ e (λ i low high. h i (λ z. omega arith) (λ z. omega arith) (λ z. omega arith)) in
+    let d = same-part (3 * (k + 2) + 2) k bytes bytes′ e (λ i low high. h i (λ z. omega arith) (λ z. omega arith) (λ z. omega arith)) in
+    ap (chosen C (payloadBytes k) 0) (ap₂ _++_ a (ap₂ _++_ b (ap₂ _++_ c d)))
 
 -- as many client bytes are taken out of a frame as the count says
 pub length-client : (k C : ℕ) (bytes : List ℕ) → C ≤ payloadBytes k → length bytes ≡ frameBytes k → length (clientBytes k C bytes) ≡ C

@@ -38,6 +38,10 @@ clientBytes k C bytes = chosen C (payloadBytes k) 0 (payload k bytes)
 unfoldable pub controlOf : ℕ → List ℕ → Control
 controlOf k bytes = record { jc1 = getD bytes 1 0; jc2 = getD bytes (k + 3) 0; jc3 = getD bytes (2 * k + 5) 0 }
 
+-- two frames have the same bytes, JC1 to JC3 apart
+abbrev pub OthersSame : ℕ → List ℕ → List ℕ → Type 0
+OthersSame k one two = (i : ℕ) → (i ≡ 1 → ⊥) → (i ≡ k + 3 → ⊥) → (i ≡ 2 * k + 5 → ⊥) → getD one i 0 ≡ getD two i 0
+
 -- What the frame writer leaves in its buffer: the frame, where the buffer has a frame's length and
 -- the client bytes fit its payload, and else what was there.
 unfoldable pub frameWritten : ℕ → List ℕ → Control → ℕ → List ℕ → List ℕ

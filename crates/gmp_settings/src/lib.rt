@@ -1,19 +1,22 @@
-// The settings of a card: the grid of a frame, the window of counts and the inversion patterns.
+// The settings of a card: the grid of a frame, the window of counts, the inversion patterns, and
+// whether a sink mends one wrong control bit.
 use gmp_refusal::Refusal;
 use gmp_refusal::Verdict;
 ghost use mathlib.Core.Path.{_≡_};
 ghost use Rattle.refusals.specs.Table.{lowest};
 ghost use Rattle.gmp_refusal.specs.Refusal.{verdictNumber};
 ghost use Rattle.gmp_settings.specs.Grid.{frameBytes};
-ghost use Rattle.gmp_settings.specs.Settings.{newSettings, withPatterns, opu0, badGrid, badWindow, settingsReasons, outside};
+ghost use Rattle.gmp_settings.specs.Settings.{newSettings, withPatterns, withMending, opu0, badGrid, badWindow, settingsReasons, outside};
 ghost use Rattle.gmp_settings.specs.Patterns.{breaksRule, exceeds, badPatterns};
 
-// The grid K, payload columns in a row; the window of counts; and the inversion patterns.
+// The grid K, payload columns in a row; the window of counts; the inversion patterns; and whether
+// a sink mends one wrong control bit, which sources and keepers do not look at.
 pub struct Settings {
     pub k: u32,
     pub lo: u32,
     pub hi: u32,
     pub patterns: Patterns,
+    pub mending: bool,
 }
 
 // The standard's patterns, or four that are given.
@@ -30,8 +33,8 @@ pub struct FourPatterns {
     pub minus2: u32,
 }
 
-// The settings of this grid and window, with the standard's patterns. Any numbers go: a call judges
-// them.
+// The settings of this grid and window, with the standard's patterns and without mending. Any
+// numbers go: a call judges them.
 pub fn new_settings(k: u32, lo: u32, hi: u32) -> Settings
     ensures { λ r. ⌜ r ≡ newSettings k lo hi ⌝ }
 {
@@ -40,6 +43,7 @@ pub fn new_settings(k: u32, lo: u32, hi: u32) -> Settings
         lo: lo,
         hi: hi,
         patterns: Patterns::Standard,
+        mending: false,
     }
 }
 
@@ -52,7 +56,17 @@ pub fn with_patterns(settings: Settings, four: FourPatterns) -> Settings
         lo: settings.lo,
         hi: settings.hi,
         patterns: Patterns::Given(four),
+        mending: settings.mending,
     }
+}
+
+// The same settings with mending on or off.
+pub fn with_mending(settings: Settings, mending: bool) -> Settings
+    ensures { λ r. ⌜ r ≡ withMending settings mending ⌝ }
+{
+    let mut after = settings;
+    after.mending = mending;
+    after
 }
 
 // The settings of OPU0.

@@ -7,7 +7,7 @@ use native.Mathlib.Omega.{arith}
 use lib.Dec.{eqb, ltb, lit<}
 use lib.ListN.{length, drop}
 use borrow.Author.Tests.{eqb-true, ltb-false, not-false, eq-eqb, ne-eqb}
-use Rattle.gmp_crc8.specs.Check.{passes}
+use Rattle.gmp_crc8.specs.declared.Reading.{Reading}
 use Rattle.gmp_settings.specs.declared.Settings.{Settings}
 use Rattle.gmp_refusal.specs.declared.Refusal.{Refusal}
 use Rattle.gmp_settings.specs.Grid.{payloadBytes, frameBytes}
@@ -20,19 +20,16 @@ use Rattle.gmp_settings.proofs.Laws.{all-passed, settings-fit, inside-window}
 use Rattle.gmp_standing.specs.declared.Count.{Count}
 use Rattle.gmp_standing.specs.declared.Count.the-variants.{Known, Unknown}
 use Rattle.gmp_standing.specs.declared.Standing.{Standing}
-use Rattle.gmp_standing.specs.Standing.{finding, BADCHECK, standingMeaning}
+use Rattle.gmp_standing.specs.Standing.{standingMeaning}
 use Rattle.gmp_standing.specs.Known.{inWindow}
 use Rattle.gmp_control.specs.declared.Remembered.{Remembered}
-use Rattle.gmp_control.specs.declared.Remembered.the-variants.{Word, Nothing}
-use Rattle.gmp_control.specs.Word.{wordBy}
-use Rattle.gmp_control.specs.Follow.{usable, found}
 use Rattle.gmp_frame.specs.declared.Control.{Control}
 use Rattle.gmp_frame.specs.Frame.{controlOf, clientBytes, clientTaken}
 use Rattle.gmp_frame.proofs.Laws.{length-client, taken-fits}
 use Rattle.gmp_sink.specs.declared.SinkState.{SinkState}
 use Rattle.gmp_sink.specs.declared.SinkAnswer.the-variants.{Done, Refused}
 use Rattle.gmp_sink.specs.declared.SinkResult.{SinkResult}
-use Rattle.gmp_sink.specs.Sink.{sinkReasons, sinkRefusal, handed, standingAfter, stateAfter, answerMeaning, sinkAnswer, sinkState, sinkHanded, sinkOut, SinkPromise, HandsOut}
+use Rattle.gmp_sink.specs.Sink.{sinkReasons, sinkRefusal, handed, readingOf, standingBy, standingAfter, wordFrom, stateAfter, isMended, mendedIn, answerMeaning, sinkAnswer, sinkState, sinkMended, sinkHanded, sinkOut, SinkPromise, HandsOut}
 
 -- an accepted call
 pub record Accepted (s : Settings) (frameLength outLength : ℕ) : Type 0 where
@@ -88,6 +85,10 @@ module _ (s : Settings) (z : SinkState) (frame : List ℕ) where
     unfolding sinkOut
     out-accepted e = ap (λ (l : List ℕ). l ++ drop (length l) out) (handed-accepted e)
 
+    pub mended-accepted : sinkRefusal s (length frame) (length out) ≡ 0 → sinkMended s frame out ≡ mendedIn s (controlOf (s .k) frame)
+    unfolding sinkMended
+    mended-accepted e = simp (eq-eqb _ _ e)
+
     -- a refused one
     pub answer-refused : (sinkRefusal s (length frame) (length out) ≡ 0 → ⊥) → sinkAnswer s z frame out ≡ refused (sinkRefusal s (length frame) (length out))
     unfolding sinkAnswer
@@ -97,6 +98,10 @@ module _ (s : Settings) (z : SinkState) (frame : List ℕ) where
     unfolding sinkState
     state-refused h = simp (ne-eqb _ _ h)
 
+    pub mended-refused : (sinkRefusal s (length frame) (length out) ≡ 0 → ⊥) → sinkMended s frame out ≡ false
+    unfolding sinkMended
+    mended-refused h = simp (ne-eqb _ _ h)
+
     pub handed-refused : (sinkRefusal s (length frame) (length out) ≡ 0 → ⊥) → sinkHanded s z frame out ≡ []
     unfolding sinkHanded
     handed-refused h = simp (ne-eqb _ _ h)
@@ -105,24 +110,21 @@ module _ (s : Settings) (z : SinkState) (frame : List ℕ) where
     unfolding sinkOut
     out-refused h = ap (λ (l : List ℕ). l ++ drop (length l) out) (handed-refused h)
 
+module _ (s : Settings) (z : SinkState) (c : Control) (r : Reading) (e : readingOf s c ≡ r) where
+  -- control bytes lead where what they read as leads
+  pub standing-read : standingAfter s z c ≡ standingBy s z r
+  unfolding standingAfter
+  standing-read = ap (standingBy s z) e
+
+  pub word-read : stateAfter s z c .word ≡ wordFrom r
+  unfolding stateAfter
+  word-read = ap wordFrom e
+
+  pub mended-read : mendedIn s c ≡ isMended r
+  unfolding mendedIn
+  mended-read = ap isMended e
+
 module _ (s : Settings) (z : SinkState) (c : Control) where
-  -- control bytes that pass the check lead where their word leads, and those that fail to nothing
-  pub standing-passed : passes (c .jc1) (c .jc2) (c .jc3) ≡ true → standingAfter s z c ≡ found s (z .count) (z .word) (wordBy (c .jc1) (c .jc2))
-  unfolding standingAfter
-  standing-passed e = rw e
-
-  pub standing-failed : passes (c .jc1) (c .jc2) (c .jc3) ≡ false → standingAfter s z c ≡ finding BADCHECK Unknown
-  unfolding standingAfter
-  standing-failed e = rw e
-
-  pub word-passed : passes (c .jc1) (c .jc2) (c .jc3) ≡ true → stateAfter s z c .word ≡ usable (Word (wordBy (c .jc1) (c .jc2)))
-  unfolding stateAfter
-  word-passed e = rw e
-
-  pub word-failed : passes (c .jc1) (c .jc2) (c .jc3) ≡ false → stateAfter s z c .word ≡ Nothing
-  unfolding stateAfter
-  word-failed e = rw e
-
   -- the new count is what was found
   pub count-after : stateAfter s z c .count ≡ standingAfter s z c .count
   unfolding stateAfter

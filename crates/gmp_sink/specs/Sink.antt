@@ -1,12 +1,15 @@
 -- The sink (01, "Sink"). Three things are said apart: what is handed out, how the count follows,
 -- and, in the crate card_sink, what the tally adds. Assumes nothing.
 use mathlib.Core.Path.{_≡_}
-use mathlib.Core.Bool.{Bool, not, cond}
+use mathlib.Core.Bool.{Bool, true, false, not, cond}
 use mathlib.Core.List.{List, [], _∷_, _++_}
 use Prim.Native.Nat.{ℕ}
 use lib.Dec.{eqb, ltb}
 use lib.ListN.{length, drop}
-use Rattle.gmp_crc8.specs.Check.{passes}
+use Rattle.gmp_crc8.specs.declared.ReadWord.{ReadWord}
+use Rattle.gmp_crc8.specs.declared.Reading.{Reading}
+use Rattle.gmp_crc8.specs.declared.Reading.the-variants.{Whole, Mended, Bad}
+use Rattle.gmp_crc8.specs.Reading.{readAs}
 use Rattle.gmp_settings.specs.declared.Settings.{Settings}
 use Rattle.gmp_settings.specs.Grid.{frameBytes}
 use Rattle.refusals.specs.Table.{Reason, reason, lowest, Answer, accepted, refused, answerBy}
@@ -17,16 +20,17 @@ use Rattle.gmp_standing.specs.declared.Count.{Count}
 use Rattle.gmp_standing.specs.declared.Count.the-variants.{Known, Unknown}
 use Rattle.gmp_standing.specs.Standing.{Finding, finding, BADCHECK, standingMeaning}
 use Rattle.gmp_standing.specs.Known.{inWindow}
+use Rattle.gmp_control.specs.declared.Remembered.{Remembered}
 use Rattle.gmp_control.specs.declared.Remembered.the-variants.{Word, Nothing}
-use Rattle.gmp_control.specs.declared.Followed.{Followed}
 use Rattle.gmp_control.specs.Word.{wordBy}
-use Rattle.gmp_control.specs.Follow.{usable, found}
+use Rattle.gmp_control.specs.Follow.{usable, found, Follows}
 use Rattle.gmp_frame.specs.declared.Control.{Control}
 use Rattle.gmp_frame.specs.Frame.{clientBytes, controlOf}
 use Rattle.gmp_sink.specs.declared.SinkState.{SinkState}
 use Rattle.gmp_sink.specs.declared.SinkAnswer.{SinkAnswer}
 use Rattle.gmp_sink.specs.declared.SinkAnswer.the-variants.{Done, Refused}
 use Rattle.gmp_sink.specs.declared.SinkResult.{SinkResult}
+use Rattle.gmp_sink.specs.declared.Heard.{Heard}
 
 -- "a known count or none, and a remembered word or none; a new sink has neither"
 abbrev pub newSink : SinkState
@@ -52,19 +56,39 @@ atPlaces k Unknown frame = []
 unfoldable pub handed : Settings → SinkState → List ℕ → List ℕ
 handed s z frame = atPlaces (s .k) (inWindow s (z .count)) frame
 
--- rule 1, "The check fails: count none, word none. BADCHECK", or what the word leads to. (Clause
--- 17.7.1 lets a sink still compare the bits of a bad word with the patterns; 01 does not.)
-unfoldable pub standingAfter : Settings → SinkState → Control → Finding
-standingAfter s z c =
-    cond (passes (c .jc1) (c .jc2) (c .jc3)) (found s (z .count) (z .word) (wordBy (c .jc1) (c .jc2))) (finding BADCHECK Unknown)
+-- what the control bytes read as: whole, mended where the settings say so, or bad (02, P1)
+abbrev pub readingOf : Settings → Control → Reading
+readingOf s c = readAs (s .mending) (c .jc1) (c .jc2) (c .jc3)
 
--- the state after these control bytes: what was found, and the word where it passed and II ≠ DI
+-- Rule 1, "The check fails: count none, word none. BADCHECK", which 02, P1 replaces where a bit is
+-- mended, or what the word leads to. (Clause 17.7.1 lets a sink still compare the bits of a bad
+-- word with the patterns; 01 does not.)
+abbrev pub standingBy : Settings → SinkState → Reading → Finding
+standingBy s z (Whole w) = found s (z .count) (z .word) (wordBy (w .jc1) (w .jc2))
+standingBy s z (Mended w) = found s (z .count) (z .word) (wordBy (w .jc1) (w .jc2))
+standingBy s z Bad = finding BADCHECK Unknown
+
+unfoldable pub standingAfter : Settings → SinkState → Control → Finding
+standingAfter s z c = standingBy s z (readingOf s c)
+
+-- the word that is remembered: that which was read, mended or not, where II ≠ DI
+abbrev pub wordFrom : Reading → Remembered
+wordFrom (Whole w) = usable (Word (wordBy (w .jc1) (w .jc2)))
+wordFrom (Mended w) = usable (Word (wordBy (w .jc1) (w .jc2)))
+wordFrom Bad = Nothing
+
+-- the state after these control bytes: what was found, and the word
 unfoldable pub stateAfter : Settings → SinkState → Control → SinkState
-stateAfter s z c =
-    record {
-      count = standingAfter s z c .count;
-      word = cond (passes (c .jc1) (c .jc2) (c .jc3)) (usable (Word (wordBy (c .jc1) (c .jc2)))) Nothing;
-    }
+stateAfter s z c = record { count = standingAfter s z c .count; word = wordFrom (readingOf s c) }
+
+-- "whether it was mended"
+abbrev pub isMended : Reading → Bool
+isMended (Whole w) = false
+isMended (Mended w) = true
+isMended Bad = false
+
+unfoldable pub mendedIn : Settings → Control → Bool
+mendedIn s c = isMended (readingOf s c)
 
 -- the paper's number and values for each case of the answer
 abbrev pub answerMeaning : SinkAnswer → Answer Finding
@@ -79,6 +103,10 @@ sinkAnswer s z frame out = answerBy (sinkRefusal s (length frame) (length out)) 
 unfoldable pub sinkState : Settings → SinkState → List ℕ → List ℕ → SinkState
 sinkState s z frame out = cond (eqb (sinkRefusal s (length frame) (length out)) 0) (stateAfter s z (controlOf (s .k) frame)) z
 
+-- whether a call mended a bit: a refused one mends nothing
+unfoldable pub sinkMended : Settings → List ℕ → List ℕ → Bool
+sinkMended s frame out = cond (eqb (sinkRefusal s (length frame) (length out)) 0) (mendedIn s (controlOf (s .k) frame)) false
+
 -- the bytes that a call hands out, and the output buffer after it: "bytes after them keep their
 -- content"
 unfoldable pub sinkHanded : Settings → SinkState → List ℕ → List ℕ → List ℕ
@@ -87,12 +115,13 @@ sinkHanded s z frame out = cond (eqb (sinkRefusal s (length frame) (length out))
 unfoldable pub sinkOut : Settings → SinkState → List ℕ → List ℕ → List ℕ
 sinkOut s z frame out = sinkHanded s z frame out ++ drop (length (sinkHanded s z frame out)) out
 
--- What a call promises: its answer, the new state, the number of bytes handed out, and every byte
--- of the output buffer.
+-- What a call promises: its answer, the new state, the number of bytes handed out, whether a bit
+-- was mended, and every byte of the output buffer.
 pub record SinkPromise (s : Settings) (z : SinkState) (frame out : List ℕ) (r : SinkResult) (after : List ℕ) : Type 0 where
   pub answer : answerMeaning (r .answer) ≡ sinkAnswer s z frame out
   pub state : r .state ≡ sinkState s z frame out
   pub handed-bytes : r .handed ≡ length (sinkHanded s z frame out)
+  pub mended : r .mended ≡ sinkMended s frame out
   pub out-buffer : after ≡ sinkOut s z frame out
 
 -- The parts of an accepted call: bytes handed out at the start of a buffer, with their number;
@@ -100,8 +129,14 @@ pub record HandsOut (bytes out : List ℕ) (r : ℕ) (after : List ℕ) : Type 0
   pub length-is : r ≡ length bytes
   pub buffer : after ≡ bytes ++ drop (length bytes) out
 
+-- what a word that was read leads to;
+pub record HearsWord (s : Settings) (z : SinkState) (w : ReadWord) (mended : Bool) (r : Heard) : Type 0 where
+  pub follows : Follows s (z .count) (z .word) (wordBy (w .jc1) (w .jc2)) (r .followed)
+  pub told : r .mended ≡ mended
+
 -- and what the control bytes lead to.
-pub record ReadsControl (s : Settings) (z : SinkState) (c : Control) (r : Followed) : Type 0 where
-  pub standing : standingMeaning (r .standing) ≡ standingAfter s z c
-  pub count : r .count ≡ stateAfter s z c .count
-  pub word : r .word ≡ stateAfter s z c .word
+pub record ReadsControl (s : Settings) (z : SinkState) (c : Control) (r : Heard) : Type 0 where
+  pub standing : standingMeaning (r .followed .standing) ≡ standingAfter s z c
+  pub count : r .followed .count ≡ stateAfter s z c .count
+  pub word : r .followed .word ≡ stateAfter s z c .word
+  pub mended : r .mended ≡ mendedIn s c

@@ -1,5 +1,6 @@
 // The sink: its state, what it answers, and a new sink. The call that takes a frame is in the crate
 // gmp_sink_call.
+use gmp_control::Followed;
 use gmp_control::Remembered;
 use gmp_refusal::Refusal;
 use gmp_standing::Count;
@@ -19,11 +20,19 @@ pub enum SinkAnswer {
     Refused(Refusal),
 }
 
-// The answer, the state to go on from, and the number of bytes handed out.
+// The answer, the state to go on from, the number of bytes handed out, and whether a wrong control
+// bit was mended.
 pub struct SinkResult {
     pub answer: SinkAnswer,
     pub state: SinkState,
     pub handed: u32,
+    pub mended: bool,
+}
+
+// What the control bytes of a frame lead to, and whether one of their bits was mended.
+pub struct Heard {
+    pub followed: Followed,
+    pub mended: bool,
 }
 
 // A sink that knows nothing.

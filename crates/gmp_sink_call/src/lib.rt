@@ -2,10 +2,13 @@
 // before, and follows the control word.
 use gmp_control::Followed;
 use gmp_control::Remembered;
+use gmp_crc8::ReadWord;
+use gmp_crc8::Reading;
 use gmp_frame::Control;
 use gmp_refusal::Refusal;
 use gmp_refusal::Verdict;
 use gmp_settings::Settings;
+use gmp_sink::Heard;
 use gmp_sink::SinkAnswer;
 use gmp_sink::SinkResult;
 use gmp_sink::SinkState;
@@ -14,7 +17,7 @@ use gmp_standing::Standing;
 ghost use mathlib.Core.Path.{_≡_};
 ghost use lib.ListN.{length};
 ghost use Rattle.gmp_refusal.specs.Refusal.{verdictNumber};
-ghost use Rattle.gmp_sink.specs.Sink.{sinkRefusal, handed, HandsOut, ReadsControl, SinkPromise};
+ghost use Rattle.gmp_sink.specs.Sink.{sinkRefusal, handed, HandsOut, HearsWord, ReadsControl, SinkPromise};
 
 // Takes a frame. A refused call returns the state that it was given and leaves the output buffer as
 // it was.
@@ -29,6 +32,7 @@ pub fn take_frame(settings: Settings, state: SinkState, frame: &[u8], out: &mut 
         answer: SinkAnswer::Refused(refusal),
         state: state,
         handed: 0,
+        mended: false,
     }
 }
 
@@ -39,7 +43,8 @@ fn take_accepted(settings: Settings, state: SinkState, frame: &[u8], out: &mut [
     ensures { λ r. ⌜ SinkPromise settings state (now (frame .entry)) (now (out .entry)) r (now (out .exit)) ⌝ }
 {
     let control = gmp_frame::control_of(frame, settings.k);
-    let followed = read_control(settings, state, control);
+    let heard = read_control(settings, state, control);
+    let followed = heard.followed;
     let standing = followed.standing;
     let count = followed.count;
     let word = followed.word;
@@ -52,6 +57,7 @@ fn take_accepted(settings: Settings, state: SinkState, frame: &[u8], out: &mut [
         answer: SinkAnswer::Done(standing),
         state: after,
         handed: handed,
+        mended: heard.mended,
     }
 }
 
@@ -70,19 +76,34 @@ fn hand_out(settings: Settings, state: SinkState, frame: &[u8], out: &mut [u8]) 
     n
 }
 
-// Rules 1 to 3: what the control bytes lead to.
-fn read_control(settings: Settings, state: SinkState, control: Control) -> Followed
+// Rules 1 to 3: what the control bytes lead to, and whether a bit of them was mended.
+fn read_control(settings: Settings, state: SinkState, control: Control) -> Heard
     ensures { λ r. ⌜ ReadsControl settings state control r ⌝ }
 {
-    let count = state.count;
-    let word = state.word;
-    if gmp_crc8::passes(control.jc1, control.jc2, control.jc3) {
-        return gmp_control_read::follow(settings, count, word, control.jc1, control.jc2);
+    let reading = gmp_crc8::read(settings.mending, control.jc1, control.jc2, control.jc3);
+    match reading {
+        Reading::Whole(word) => hear_word(settings, state, word, false),
+        Reading::Mended(word) => hear_word(settings, state, word, true),
+        Reading::Bad => Heard {
+            followed: Followed {
+                standing: Standing::BadCheck,
+                count: Count::Unknown,
+                word: Remembered::Nothing,
+            },
+            mended: false,
+        },
     }
-    Followed {
-        standing: Standing::BadCheck,
-        count: Count::Unknown,
-        word: Remembered::Nothing,
+}
+
+// Rules 2 and 3: what a word that was read leads to from this state, and whether it was mended.
+fn hear_word(settings: Settings, state: SinkState, word: ReadWord, mended: bool) -> Heard
+    ensures { λ r. ⌜ HearsWord settings state word mended r ⌝ }
+{
+    let count = state.count;
+    let earlier = state.word;
+    Heard {
+        followed: gmp_control_read::follow(settings, count, earlier, word.jc1, word.jc2),
+        mended: mended,
     }
 }
 

@@ -1,5 +1,6 @@
 -- From frame to frame: the demapper over some frames, and over one more. Assumes nothing.
 use mathlib.Core.Path.{_≡_}
+use mathlib.Core.Bool.{Bool}
 use mathlib.Core.List.{List, [], _∷_, _++_, foldl}
 use Prim.Native.Nat.{ℕ, _≤_}
 use lib.ListN.{length}
@@ -10,18 +11,18 @@ use Rattle.odu0demap.specs.declared.Next.the-variants.{From, End}
 use Rattle.odu0demap.specs.Demapping.{newDemapper, demapperAfter, Goes, GoesOn, DemapsAll}
 
 -- a frame that was read was some frame of OPU0's length
-pub goes-on : (d : Demapper) (frame : List ℕ) (r : Next) → length frame ≡ 15240 → Goes d frame r → GoesOn d r
-goes-on d frame (From r) l e = (frame, l, e)
-goes-on d frame End l e = tt
+pub goes-on : (mending : Bool) (d : Demapper) (frame : List ℕ) (r : Next) → length frame ≡ 15240 → Goes mending d frame r → GoesOn mending d r
+goes-on mending d frame (From r) l e = (frame, l, e)
+goes-on mending d frame End l e = tt
 
 -- a demapper that has come so far, and what it comes to with one frame more
-pub all-start : (r : Demapper) → r ≡ newDemapper → DemapsAll r
-all-start r e = ([], e)
+pub all-start : (mending : Bool) (r : Demapper) → r ≡ newDemapper → DemapsAll mending r
+all-start mending r e = ([], e)
 
-pub all-next : (d r : Demapper) → DemapsAll d → GoesOn d (From r) → DemapsAll r
-all-next d r a g = (a .0 ++ (g .0 ∷ []), fold-next demapperAfter newDemapper d r (a .0) (g .0) (a .1) (g .2))
+pub all-next : (mending : Bool) (d r : Demapper) → DemapsAll mending d → GoesOn mending d (From r) → DemapsAll mending r
+all-next mending d r a g = (a .0 ++ (g .0 ∷ []), fold-next (demapperAfter mending) newDemapper d r (a .0) (g .0) (a .1) (g .2))
 
 -- the number of the frame is 64 bits long
-pub record Along (d : Demapper) (frameNumber : ℕ) : Type 0 where
-  pub all : DemapsAll d
+pub record Along (mending : Bool) (d : Demapper) (frameNumber : ℕ) : Type 0 where
+  pub all : DemapsAll mending d
   pub few : frameNumber ≤ 18446744073709551615

@@ -1,6 +1,7 @@
 -- A frame of 15,240 bytes is never refused at OPU0's size, and what the sink makes of it is what
 -- the program goes on with. Assumes nothing.
 use mathlib.Core.Path.{_≡_, sym, ap, ap₂, _∙_}
+use mathlib.Core.Bool.{Bool}
 use mathlib.Core.List.{List, _++_}
 use Prim.Native.Nat.{ℕ}
 use native.Mathlib.Omega.{arith}
@@ -9,7 +10,7 @@ use lib.Seq.{take-at}
 use Rattle.io.specs.Counts.{Counts}
 use Rattle.gmp_refusal.specs.declared.Refusal.{Refusal}
 use Rattle.refusals.specs.Table.{Answer, accepted}
-use Rattle.gmp_settings.specs.Settings.{opu0}
+use Rattle.gmp_settings.specs.declared.Settings.{Settings}
 use Rattle.gmp_standing.specs.declared.Standing.{Standing}
 use Rattle.gmp_standing.specs.Standing.{Finding, standingMeaning, standingNumber}
 use Rattle.card_tally.specs.declared.Tally.{Tally}
@@ -17,10 +18,10 @@ use Rattle.gmp_sink.specs.declared.SinkState.{SinkState}
 use Rattle.gmp_sink.specs.declared.SinkAnswer.the-variants.{Done, Refused}
 use Rattle.gmp_sink.specs.declared.SinkResult.{SinkResult}
 use Rattle.gmp_sink.specs.Sink.{sinkRefusal}
-use Rattle.gmp_sink.proofs.Laws.{answer-accepted, state-accepted, handed-accepted, out-accepted, never-refused, done-says}
+use Rattle.gmp_sink.proofs.Laws.{answer-accepted, state-accepted, mended-accepted, handed-accepted, out-accepted, never-refused, done-says}
 use Rattle.card_sink.specs.Card.{tallyBy, tallyAfter, CallPromise}
 use Rattle.odu0demap.specs.declared.Demapper.{Demapper}
-use Rattle.odu0demap.specs.Demapping.{standingOf, handedBytes, Takes}
+use Rattle.odu0demap.specs.Demapping.{settingsOf, standingOf, handedBytes, Takes}
 
 -- bytes at the start of a buffer, and their number
 first-bytes : (bytes rest after : List ℕ) (n : ℕ) → after ≡ bytes ++ rest → n ≡ length bytes → Counts n after × (take n after ≡ bytes)
@@ -35,34 +36,38 @@ demapper-of-parts : {x z : SinkState} {y t : Tally} {w v : ℕ} → x ≡ z → 
 demapper-of-parts {x} {z} {y} {t} {w} {v} e f g =
     ap₂ (λ (a : SinkState) (b : Tally). record { state = a; tally = b; last = w }) e f ∙ ap (λ (k : ℕ). record { state = z; tally = t; last = k }) g
 
-module _ (d : Demapper) (frame out : List ℕ) (size : length frame ≡ 15240) (room : length out ≡ 14410) where
-  none-refused : sinkRefusal opu0 (length frame) (length out) ≡ 0
+module _ (mending : Bool) (d : Demapper) (frame out : List ℕ) (size : length frame ≡ 15240) (room : length out ≡ 14410) where
+  abbrev s : Settings
+  s = settingsOf mending
+
+  none-refused : sinkRefusal s (length frame) (length out) ≡ 0
   unfolding sinkRefusal
   none-refused = rw (size, room)
 
-  tallied : tallyAfter opu0 (d .state) frame out (d .tally) ≡ tallyBy (accepted (standingOf d frame)) (length (handedBytes d frame)) (d .tally)
+  tallied : tallyAfter s (d .state) frame out (d .tally) ≡ tallyBy (accepted (standingOf mending d frame)) (length (handedBytes mending d frame)) (d .tally)
   unfolding tallyAfter
   tallied =
-      ap₂ (λ (x : Answer Finding) (l : List ℕ). tallyBy x (length l) (d .tally)) (answer-accepted opu0 (d .state) frame out none-refused)
-      (handed-accepted opu0 (d .state) frame out none-refused)
+      ap₂ (λ (x : Answer Finding) (l : List ℕ). tallyBy x (length l) (d .tally)) (answer-accepted s (d .state) frame out none-refused)
+      (handed-accepted s (d .state) frame out none-refused)
 
-  module _ (r : SinkResult) (after : List ℕ) (tally : Tally) (p : CallPromise opu0 (d .state) frame out (d .tally) r after tally) where
+  module _ (r : SinkResult) (after : List ℕ) (tally : Tally) (p : CallPromise s (d .state) frame out (d .tally) r after tally) where
     pub not-refused : (x : Refusal) → r .answer ≡ Refused x → ⊥
     not-refused = never-refused none-refused (p .sink)
 
     pub takes : (x : Standing) → r .answer ≡ Done x → (w : ℕ) → w ≡ standingNumber (standingMeaning x .name)
-        → Takes d frame (record { handed = r .handed; standing = x; after = record { state = r .state; tally = tally; last = w } }) after
+        → Takes mending d frame (record { handed = r .handed; standing = x; mended = r .mended; after = record { state = r .state; tally = tally; last = w } }) after
     takes x e w f =
-        let s : standingMeaning x ≡ standingOf d frame = done-says none-refused (p .sink) x e in
-        let n : r .handed ≡ length (handedBytes d frame) = p .sink .handed-bytes ∙ ap length (handed-accepted opu0 (d .state) frame out none-refused) in
+        let told : standingMeaning x ≡ standingOf mending d frame = done-says none-refused (p .sink) x e in
+        let n : r .handed ≡ length (handedBytes mending d frame) = p .sink .handed-bytes ∙ ap length (handed-accepted s (d .state) frame out none-refused) in
         let b =
-        first-bytes (handedBytes d frame) (drop (length (handedBytes d frame)) out) after (r .handed)
-        (p .sink .out-buffer ∙ out-accepted opu0 (d .state) frame out none-refused) n in
+        first-bytes (handedBytes mending d frame) (drop (length (handedBytes mending d frame)) out) after (r .handed)
+        (p .sink .out-buffer ∙ out-accepted s (d .state) frame out none-refused) n in
         record {
-          standing = s;
+          standing = told;
+          mended = p .sink .mended ∙ mended-accepted s (d .state) frame out none-refused;
           after =
-              demapper-of-parts (p .sink .state ∙ state-accepted opu0 (d .state) frame out none-refused) (p .tally ∙ tallied)
-              (f ∙ ap (λ (y : Finding). standingNumber (y .name)) s);
+              demapper-of-parts (p .sink .state ∙ state-accepted s (d .state) frame out none-refused) (p .tally ∙ tallied)
+              (f ∙ ap (λ (y : Finding). standingNumber (y .name)) told);
           length-is = n;
           within = b .0;
           bytes = b .1;

@@ -1,6 +1,7 @@
-// Takes OPU0 frames on standard input and hands out their client bytes on standard output. On
-// standard error it writes a line for the first frame's standing and for each change of it, in its
-// name or in the count found, and at the end the card's tally.
+// Takes OPU0 frames on standard input and hands out their client bytes on standard output. With the
+// argument "mend" one wrong control bit of a frame is mended. On standard error it writes a line
+// for the first frame's standing, for each change of it, in its name or in the count found, and for
+// each mended frame, and at the end the card's tally.
 use card_tally::Tally;
 use gmp_sink::SinkAnswer;
 use gmp_sink::SinkState;
@@ -14,7 +15,7 @@ use program_stream::Got;
 ghost use mathlib.Core.Path.{_≡_};
 ghost use lib.ListN.{length};
 ghost use Rattle.gmp_standing.specs.Standing.{standingMeaning};
-ghost use Rattle.odu0demap.specs.Demapping.{newDemapper, sameCount, isSame, Goes, GoesOn, DemapsAll, Takes};
+ghost use Rattle.odu0demap.specs.Demapping.{isMend, newDemapper, sameCount, isSame, isSilent, Goes, GoesOn, DemapsAll, Takes};
 
 // The sink's state, the card's tally, and the number of the last standing, 0 before the first
 // frame.
@@ -24,10 +25,12 @@ struct Demapper {
     last: u32,
 }
 
-// What a frame came to: the bytes handed out, its standing, and the demapper after it.
+// What a frame came to: the bytes handed out, its standing, whether a wrong control bit was mended,
+// and the demapper after it.
 struct Taken {
     handed: u32,
     standing: Standing,
+    mended: bool,
     after: Demapper,
 }
 
@@ -37,29 +40,74 @@ enum Next {
     End,
 }
 
-// Takes all frames; an argument is wrong.
+// Whether the arguments ask for mending, or that they are wrong.
+enum Asked {
+    Mending(bool),
+    Wrong,
+}
+
+// Takes all frames, or says that the arguments are wrong.
 fn main() {
-    if os::arg_count() > 1 {
+    let asked = asked_mending();
+    let Asked::Mending(mending) = asked else {
         io::write_all(
             STDERR_FILENO,
-            b"odu0demap: it takes no argument\nusage: odu0demap, frames on standard input, client bytes on standard output\n",
+            b"odu0demap: the only argument is mend\nusage: odu0demap [mend], frames on standard input, client bytes on standard output\n",
         );
         return;
-    }
-    let end = demap_all();
+    };
+    let end = demap_all(mending);
     show_tally(end.tally);
+}
+
+// Without an argument nothing is mended.
+fn asked_mending() -> Asked {
+    if os::arg_count() < 2 {
+        return Asked::Mending(false);
+    }
+    if os::arg_count() != 2 {
+        return Asked::Wrong;
+    }
+    let mut text = [0u8; 8];
+    let n = os::arg(1, &mut text);
+    if os::errno() != 0 {
+        return Asked::Wrong;
+    }
+    if is_mend(&text[..n]) {
+        return Asked::Mending(true);
+    }
+    Asked::Wrong
+}
+
+// Whether a text is "mend".
+fn is_mend(text: &[u8]) -> bool
+    ensures { λ r. ⌜ r ≡ isMend (now (text .entry)) ⌝ }
+{
+    if text.len() != 4 {
+        return false;
+    }
+    if text[0] != b'm' {
+        return false;
+    }
+    if text[1] != b'e' {
+        return false;
+    }
+    if text[2] != b'n' {
+        return false;
+    }
+    text[3] == b'd'
 }
 
 // Takes frame after frame from a new demapper on, and gives the demapper at their end. A proved
 // loop has to end: this one does at the largest frame number, which no run reaches.
-fn demap_all() -> Demapper
-    ensures { λ r. ⌜ DemapsAll r ⌝ }
+fn demap_all(mending: bool) -> Demapper
+    ensures { λ r. ⌜ DemapsAll mending r ⌝ }
 {
     let mut demapper = new_demapper();
     let mut frame_number: u64 = 0;
     while frame_number < u64::MAX {
         frame_number += 1;
-        let next = take_next(frame_number, demapper);
+        let next = take_next(mending, frame_number, demapper);
         let Next::From(after) = next else {
             return demapper;
         };
@@ -85,8 +133,8 @@ fn new_demapper() -> Demapper
 }
 
 // Reads the next frame and takes it, or says what is left where the input ends.
-fn take_next(frame_number: u64, demapper: Demapper) -> Next
-    ensures { λ r. ⌜ GoesOn demapper r ⌝ }
+fn take_next(mending: bool, frame_number: u64, demapper: Demapper) -> Next
+    ensures { λ r. ⌜ GoesOn mending demapper r ⌝ }
 {
     let mut frame = [0u8; 15240];
     let got = program_stream::gather(STDIN_FILENO, &mut frame);
@@ -94,7 +142,7 @@ fn take_next(frame_number: u64, demapper: Demapper) -> Next
         show_end(got);
         return Next::End;
     };
-    take_frame(frame_number, demapper, &frame)
+    take_frame(mending, frame_number, demapper, &frame)
 }
 
 // Says what is left where the input ends, or why it could not be read.
@@ -108,28 +156,28 @@ fn show_end(got: Got) {
 
 // Takes a frame, writes its client bytes and says how its standing changed. Where the bytes cannot
 // be written nothing is said of the frame, and no more is handed out.
-fn take_frame(frame_number: u64, demapper: Demapper, frame: &[u8]) -> Next
+fn take_frame(mending: bool, frame_number: u64, demapper: Demapper, frame: &[u8]) -> Next
     requires { ⌜ length (now frame) ≡ 15240 ⌝ }
-    ensures { λ r. ⌜ Goes demapper (now (frame .entry)) r ⌝ }
+    ensures { λ r. ⌜ Goes mending demapper (now (frame .entry)) r ⌝ }
 {
     let mut out = [0u8; 14410];
-    let taken = demap_frame(demapper, frame, &mut out);
+    let taken = demap_frame(mending, demapper, frame, &mut out);
     let standing = taken.standing;
     let after = taken.after;
     let bytes = &out[..taken.handed as usize];
     if program_stream::write_out(bytes, b"odu0demap: standard output") {
-        show_change(frame_number, demapper, standing);
+        show_change(frame_number, demapper, standing, taken.mended);
         return Next::From(after);
     }
     Next::End
 }
 
 // Hands a frame to the sink and tallies it. With these settings and lengths no call is refused.
-fn demap_frame(demapper: Demapper, frame: &[u8], out: &mut [u8]) -> Taken
+fn demap_frame(mending: bool, demapper: Demapper, frame: &[u8], out: &mut [u8]) -> Taken
     requires { ⌜ (length (now frame) ≡ 15240) × (length (now out) ≡ 14410) ⌝ }
-    ensures { λ r. ⌜ Takes demapper (now (frame .entry)) r (now (out .exit)) ⌝ }
+    ensures { λ r. ⌜ Takes mending demapper (now (frame .entry)) r (now (out .exit)) ⌝ }
 {
-    let settings = gmp_settings::opu0();
+    let settings = gmp_settings::with_mending(gmp_settings::opu0(), mending);
     let state = demapper.state;
     let counted = card_sink::lend_call(settings, state, frame, out, demapper.tally);
     let result = counted.result;
@@ -140,12 +188,14 @@ fn demap_frame(demapper: Demapper, frame: &[u8], out: &mut [u8]) -> Taken
         return Taken {
             handed: 0,
             standing: Standing::Waiting,
+            mended: false,
             after: demapper,
         };
     };
     Taken {
         handed: result.handed,
         standing: standing,
+        mended: result.mended,
         after: Demapper {
             state: after,
             tally: tally,
@@ -154,24 +204,46 @@ fn demap_frame(demapper: Demapper, frame: &[u8], out: &mut [u8]) -> Taken
     }
 }
 
-// Says the standing of a frame and its count or "-", where that is not what the frame before had.
-fn show_change(frame_number: u64, before: Demapper, standing: Standing) {
-    if is_same(before, standing) {
+// Says the standing of a frame, its count or "-", and that it was mended, where there is anything
+// new to say.
+fn show_change(frame_number: u64, before: Demapper, standing: Standing, mended: bool) {
+    if is_silent(before, standing, mended) {
         return;
     }
     program_stream::say(b"frame ", frame_number);
     io::write_all(STDERR_FILENO, b": ");
     show_name(standing);
     show_count(gmp_standing::found_count(standing));
+    show_mended(mended);
 }
 
-// Ends a line with the count found, or "-" where there is none.
+// Writes the count found behind the name, or "-" where there is none.
 fn show_count(count: Count) {
     let Count::Known(n) = count else {
-        io::write_all(STDERR_FILENO, b" -\n");
+        io::write_all(STDERR_FILENO, b" -");
         return;
     };
-    program_stream::say_line(b" ", n as u64);
+    program_stream::say(b" ", n as u64);
+}
+
+// Ends the line, with "mended" where a bit was.
+fn show_mended(was_mended: bool) {
+    if was_mended {
+        io::write_all(STDERR_FILENO, b" mended\n");
+        return;
+    }
+    io::write_all(STDERR_FILENO, b"\n");
+}
+
+// Whether nothing is said of a frame: nothing was mended, and its standing is that of the frame
+// before.
+fn is_silent(before: Demapper, standing: Standing, mended: bool) -> bool
+    ensures { λ r. ⌜ r ≡ isSilent before (standingMeaning standing) mended ⌝ }
+{
+    if mended {
+        return false;
+    }
+    is_same(before, standing)
 }
 
 // Whether a standing is that of the frame before: the same name, and the same count found, which

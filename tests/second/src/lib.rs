@@ -2,10 +2,10 @@
 //!
 //! It is written from the scope paper and the change requests that have come (02), in the paper's
 //! own order and with no thought of speed: every place is tested by n × C mod S < C, the check is a
-//! long division bit by bit, the rule of given patterns is asked at each bit, and the sink is the
-//! paper's rules 1 to 3 one after the other. Where the paper is silent it goes by odu0.h: a
-//! multiframe number above 255 is taken modulo 256. Of a remembered word only the 16 bits that a
-//! word has are looked at.
+//! long division bit by bit, a wrong control bit is looked for by turning each of the 24 over, the
+//! rule of given patterns is asked at each bit, and the sink is the paper's rules 1 to 3 one after
+//! the other. Where the paper is silent it goes by odu0.h: a multiframe number above 255 is taken
+//! modulo 256. Of a remembered word only the 16 bits that a word has are looked at.
 
 mod random;
 
@@ -19,27 +19,34 @@ pub type Patterns = [(i32, u32); 4];
 pub const STANDARD: Patterns =
     [(1, 0b10101010101010), (-1, 0b01010101010101), (2, 0b01100110011001), (-2, 0b10011001100110)];
 
-/// The settings: K payload columns in a row, the window of counts, and the patterns that take the
-/// place of the paper's, if there are some (02, P11).
+/// The settings: K payload columns in a row, the window of counts, the patterns that take the place
+/// of the paper's, if there are some (02, P11), and whether the sink mends one wrong control bit
+/// (02, P1).
 #[derive(Clone, Copy, Debug, PartialEq, Eq)]
 pub struct Settings {
     pub k: u32,
     pub lo: u32,
     pub hi: u32,
     pub patterns: Option<Patterns>,
+    pub mending: bool,
 }
 
 impl Settings {
     pub const OPU0: Settings = Settings::new(3808, 14405, 14410);
 
     pub const fn new(k: u32, lo: u32, hi: u32) -> Settings {
-        Settings { k, lo, hi, patterns: None }
+        Settings { k, lo, hi, patterns: None, mending: false }
     }
 
     /// The same with four patterns, in the order of P11: for +1, −1, +2, −2.
     pub const fn with_patterns(self, four: [u32; 4]) -> Settings {
         let patterns = [(1, four[0]), (-1, four[1]), (2, four[2]), (-2, four[3])];
         Settings { patterns: Some(patterns), ..self }
+    }
+
+    /// The same with mending on.
+    pub const fn with_mending(self) -> Settings {
+        Settings { mending: true, ..self }
     }
 
     /// S: how many payload bytes a frame has.
@@ -107,6 +114,23 @@ pub fn check(word: u32) -> u32 {
         }
     }
     rest
+}
+
+/// What the control bytes are read as: the word, and whether it was mended; none where they fail
+/// the check. JC1, JC2 and JC3 are taken as one number of 24 bits, which passes if dividing its
+/// first two bytes leaves the third. With mending on, one that fails is read with a bit turned over
+/// where that makes it pass, and no other bit does (02, P1).
+pub fn read(settings: Settings, control: [u8; 3]) -> Option<(u32, bool)> {
+    let came = control.iter().fold(0, |bits, byte| bits << 8 | u32::from(*byte));
+    let passes = |bits: &u32| check(bits >> 8) == bits & 0xFF;
+    if passes(&came) {
+        return Some((came >> 8, false));
+    }
+    let turned = (0..24).map(|bit| came ^ 1 << bit);
+    match turned.filter(passes).collect::<Vec<u32>>()[..] {
+        [mended] if settings.mending => Some((mended >> 8, true)),
+        _ => None,
+    }
 }
 
 /// The pattern of a change other than 0: that of the settings where they carry patterns.
@@ -332,6 +356,15 @@ impl Standing {
     }
 }
 
+/// What a sink answers: the standing, how many bytes it handed out, and whether it mended the
+/// control bytes.
+#[derive(Clone, Copy, Debug, PartialEq, Eq)]
+pub struct Taken {
+    pub standing: Standing,
+    pub handed: u32,
+    pub mended: bool,
+}
+
 /// The card's tally.
 #[derive(Clone, Copy, Debug, Default, PartialEq, Eq)]
 pub struct Tally {
@@ -363,14 +396,13 @@ impl Sink {
         ])
     }
 
-    /// The standing, and how many bytes were handed out.
     pub fn call(
         &mut self,
         settings: Settings,
         frame: &[u8],
         out: &mut [u8],
         tally: &mut Tally,
-    ) -> Result<(Standing, u32), u32> {
+    ) -> Result<Taken, u32> {
         turn_back(self.refusals(settings, frame, out))?;
 
         // A count outside the window counts as none, and so does a remembered word with II = DI.
@@ -388,31 +420,35 @@ impl Sink {
             }
         }
 
-        // Then the control word.
+        // Then the control word, as it came or mended.
         let row = settings.k as usize + 2;
-        let [jc1, jc2, jc3] = [1, row + 1, 2 * row + 1].map(|at| u32::from(frame[at]));
-        let word = jc1 << 8 | jc2;
+        let control = read(settings, [1, row + 1, 2 * row + 1].map(|at| frame[at]));
+        let mended = control.is_some_and(|(_, mended)| mended);
         let mut standing;
-        if check(word) != jc3 {
-            standing = Standing::BadCheck;
-            self.word = None;
-        } else if ii(word) == di(word) {
-            standing = Standing::Read(c_bits(word));
-            self.word = None;
-        } else {
-            let tracked = known.and_then(|count| continued(settings, count, word));
-            let mut paired = None;
-            if let Some(before) = before {
-                for count in possible(settings, before) {
-                    paired = paired.or(continued(settings, count, word));
-                }
+        match control {
+            None => {
+                standing = Standing::BadCheck;
+                self.word = None;
             }
-            standing = match (tracked, paired) {
-                (Some(count), _) => Standing::Tracked(count),
-                (None, Some(count)) => Standing::Paired(count),
-                (None, None) => Standing::Waiting,
-            };
-            self.word = Some(word);
+            Some((word, _)) if ii(word) == di(word) => {
+                standing = Standing::Read(c_bits(word));
+                self.word = None;
+            }
+            Some((word, _)) => {
+                let tracked = known.and_then(|count| continued(settings, count, word));
+                let mut paired = None;
+                if let Some(before) = before {
+                    for count in possible(settings, before) {
+                        paired = paired.or(continued(settings, count, word));
+                    }
+                }
+                standing = match (tracked, paired) {
+                    (Some(count), _) => Standing::Tracked(count),
+                    (None, Some(count)) => Standing::Paired(count),
+                    (None, None) => Standing::Waiting,
+                };
+                self.word = Some(word);
+            }
         }
         if standing.count().is_some_and(|count| !settings.holds(count)) {
             standing = Standing::Outside;
@@ -422,7 +458,7 @@ impl Sink {
         tally.frames = tally.frames.saturating_add(1);
         tally.bad = tally.bad.saturating_add((standing == Standing::BadCheck).into());
         tally.bytes = tally.bytes.saturating_add(handed as u32);
-        Ok((standing, handed as u32))
+        Ok(Taken { standing, handed: handed as u32, mended })
     }
 }
 
@@ -446,9 +482,13 @@ mod tests {
         frame
     }
 
-    fn standing(sink: &mut Sink, settings: Settings, control: [u8; 3]) -> Standing {
+    fn taken(sink: &mut Sink, settings: Settings, control: [u8; 3]) -> Taken {
         let mut out = vec![0; settings.hi as usize];
-        sink.call(settings, &frame(settings, control), &mut out, &mut Tally::default()).unwrap().0
+        sink.call(settings, &frame(settings, control), &mut out, &mut Tally::default()).unwrap()
+    }
+
+    fn standing(sink: &mut Sink, settings: Settings, control: [u8; 3]) -> Standing {
+        taken(sink, settings, control).standing
     }
 
     #[test]
@@ -530,6 +570,33 @@ mod tests {
         assert_eq!(standing(&mut Sink::new(), Settings::OPU0, [0; 3]), Standing::Outside);
         assert_eq!(standing(&mut Sink::new(), small, [0; 3]), Standing::Read(0));
         assert_eq!(standing(&mut Sink::new(), small, [0xFF; 3]), Standing::BadCheck);
+    }
+
+    /// 4B B6 38 with a bit of JC1 turned over, one of JC2 and one of JC3, and with two; then three
+    /// wrong bits that lead to another word, and four that pass.
+    #[test]
+    fn worked_mending() {
+        let (off, on) = (Settings::OPU0, Settings::OPU0.with_mending());
+        assert_eq!(read(on, [0x4B, 0xB6, 0x38]), Some((0x4BB6, false)));
+        for control in [[0x0B, 0xB6, 0x38], [0x4B, 0xB7, 0x38], [0x4B, 0xB6, 0xB8]] {
+            assert_eq!(read(off, control), None);
+            assert_eq!(read(on, control), Some((0x4BB6, true)));
+            let mut sink = Sink { count: Some(14407), word: None };
+            let standing = Standing::Tracked(14408);
+            let answer = Taken { standing, handed: 14407, mended: true };
+            assert_eq!(taken(&mut sink, on, control), answer);
+            assert_eq!(sink, Sink { count: Some(14408), word: Some(0x4BB6) });
+            let answer = Taken { standing: Standing::BadCheck, handed: 14408, mended: false };
+            assert_eq!(taken(&mut sink, off, control), answer);
+            assert_eq!(sink, Sink::new());
+        }
+        assert_eq!(read(on, [0x0B, 0xB7, 0x38]), None);
+        let small = Settings::new(2, 0, 8);
+        assert_eq!(read(small, [0x00, 0x10, 0xC0]), None);
+        let answer = Taken { standing: Standing::Read(4), handed: 0, mended: true };
+        let control = [0x00, 0x10, 0xC0];
+        assert_eq!(taken(&mut Sink::new(), small.with_mending(), control), answer);
+        assert_eq!(standing(&mut Sink::new(), small, [0x00, 0x10, 0xD0]), Standing::Read(4));
     }
 
     #[test]
@@ -628,5 +695,23 @@ mod tests {
             }
         }
         assert_eq!((fewest, seen), (4, 65535));
+    }
+
+    /// With mending on a wrong bit is mended and two fail. Of three some are mended, each to a
+    /// false word.
+    #[test]
+    fn up_to_two_wrong_bits_are_mended_or_fail() {
+        // Again the errors of every word are those of the word 0.
+        let (mut single, mut triple) = (0, 0);
+        for bits in (0..1 << 24).filter(|bits| u32::count_ones(*bits) <= 3) {
+            let control = [(bits >> 16) as u8, (bits >> 8) as u8, bits as u8];
+            match (read(Settings::OPU0.with_mending(), control), bits.count_ones()) {
+                (Some((0, false)), 0) | (None, 2 | 3) => {}
+                (Some((0, true)), 1) => single += 1,
+                (Some((1.., true)), 3) => triple += 1,
+                (other, wrong) => panic!("{control:02X?}, {wrong} wrong bits: {other:?}"),
+            }
+        }
+        assert_eq!((single, triple), (24, 324));
     }
 }

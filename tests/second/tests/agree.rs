@@ -12,6 +12,8 @@ mod even;
 mod fields;
 #[path = "agree/given.rs"]
 mod given;
+#[path = "agree/mending.rs"]
+mod mending;
 #[path = "agree/nearest.rs"]
 mod nearest;
 #[path = "agree/patterns.rs"]

@@ -1,5 +1,5 @@
-//! The worked frames of the scope paper, the worked counts of 02's P7 and worked cases of its P11,
-//! run against the library: those that are proved as well, and the others.
+//! The worked frames of the scope paper, the worked counts of 02's P7 and worked cases of its P1
+//! and P11, run against the library: those that are proved as well, and the others.
 
 use odu0::{Keeper, Patterns, Refusal, Settings, Sink, Source, Standing, Taken, Tally};
 
@@ -21,20 +21,27 @@ fn opu0_with([plus1, minus1, plus2, minus2]: [u32; 4]) -> Settings {
 /// The control bytes that a source at the count "old" writes for the next count.
 fn announced(settings: Settings, old: u32, next: u32) -> [u8; 3] {
     let mut source = Source { count: old, multiframe: 0, payload_type: 0 };
-    let mut frame = vec![0xEE; 15240];
+    let mut frame = vec![0xEE; 4 * settings.k as usize + 8];
     source.call(settings, next, &vec![0x55; old as usize], &mut frame).unwrap();
     assert_eq!(source, Source { count: next, multiframe: 1, payload_type: 0 });
     control_bytes(settings).map(|at| frame[at])
 }
 
-/// What a sink says of a frame with these control bytes.
-fn said(sink: &mut Sink, settings: Settings, control: [u8; 3]) -> Standing {
+/// What a sink answers to a frame with these control bytes.
+fn taken(sink: &mut Sink, settings: Settings, control: [u8; 3]) -> Taken {
     let mut frame = vec![0; 4 * settings.k as usize + 8];
     for (at, byte) in control_bytes(settings).into_iter().zip(control) {
         frame[at] = byte;
     }
     let mut out = vec![0; settings.hi as usize];
-    sink.call(settings, &frame, &mut out, &mut Tally::default()).unwrap().standing
+    sink.call(settings, &frame, &mut out, &mut Tally::default()).unwrap()
+}
+
+/// What a sink says of such a frame, in which nothing is mended.
+fn said(sink: &mut Sink, settings: Settings, control: [u8; 3]) -> Standing {
+    let Taken { standing, mended, .. } = taken(sink, settings, control);
+    assert!(!mended);
+    standing
 }
 
 #[test]
@@ -97,11 +104,82 @@ fn places_of_eight() {
         let (mut sink, mut tally) = (Sink { count: Some(count), word: None }, Tally::default());
         let mut out = [0xEE; 9];
         let taken = sink.call(EIGHT, &by_place, &mut out, &mut tally);
-        assert_eq!(taken, Ok(Taken { standing: Standing::Read(0), handed: count }));
+        let answer = Taken { standing: Standing::Read(0), handed: count, mended: false };
+        assert_eq!(taken, Ok(answer));
         assert_eq!(out[..places.len()], *places);
         assert!(out[places.len()..].iter().all(|byte| *byte == 0xEE));
         assert_eq!(tally, Tally { frames: 1, bad: 0, bytes: count });
     }
+}
+
+/// 4B B6 38, with which 14407 is followed by 14408, with each of its 24 bits turned over: with
+/// mending on it is read as it was written, and with mending off it costs count and word.
+#[test]
+fn one_wrong_bit_of_a_word() {
+    for bit in 0..24 {
+        let mut control = [0x4B, 0xB6, 0x38];
+        control[bit / 8] ^= 0x80 >> (bit % 8);
+        let mut sink = Sink { count: Some(14407), word: None };
+        let answer = Taken { standing: Standing::Tracked(14408), handed: 14407, mended: true };
+        assert_eq!(taken(&mut sink, OPU0.with_mending(), control), answer, "{control:02X?}");
+        assert_eq!(sink, Sink { count: Some(14408), word: Some(0x4BB6) });
+        assert_eq!(said(&mut sink, OPU0, control), Standing::BadCheck, "{control:02X?}");
+        assert_eq!(sink, Sink::new());
+    }
+}
+
+/// Two words that lead a new sink to the count 14409, both with a wrong bit: the word that is
+/// remembered is the mended one.
+#[test]
+fn a_mended_word_is_remembered() {
+    let (on, mut sink) = (OPU0.with_mending(), Sink::new());
+    let answer = Taken { standing: Standing::Waiting, handed: 0, mended: true };
+    assert_eq!(taken(&mut sink, on, [0x4B, 0xB4, 0x38]), answer);
+    assert_eq!(sink, Sink { count: None, word: Some(0x4BB6) });
+    let answer = Taken { standing: Standing::Paired(14409), handed: 0, mended: true };
+    assert_eq!(taken(&mut sink, on, [0x4B, 0x8A, 0x18]), answer);
+    assert_eq!(sink, Sink { count: Some(14409), word: Some(0x4B8A) });
+}
+
+/// Two wrong bits are BADCHECK with mending on as well. Three may be mended to a false word, and
+/// with mending off four may pass: of 00 00 00 come 00 10 C0 and 00 10 D0.
+#[test]
+fn more_than_one_wrong_bit_of_a_word() {
+    let on = OPU0.with_mending();
+    for control in [[0x8B, 0xB6, 0x38], [0x4B, 0xB5, 0x38], [0xCB, 0xB6, 0x39]] {
+        let mut sink = Sink { count: Some(14407), word: Some(0x4BB6) };
+        assert_eq!(said(&mut sink, on, control), Standing::BadCheck);
+        assert_eq!(sink, Sink::new());
+    }
+    assert_eq!(announced(EIGHT, 0, 0), [0, 0, 0]);
+    let answer = Taken { standing: Standing::Read(4), handed: 0, mended: true };
+    assert_eq!(taken(&mut Sink::new(), EIGHT.with_mending(), [0x00, 0x10, 0xC0]), answer);
+    assert_eq!(said(&mut Sink::new(), EIGHT, [0x00, 0x10, 0xC0]), Standing::BadCheck);
+    assert_eq!(said(&mut Sink::new(), EIGHT, [0x00, 0x10, 0xD0]), Standing::Read(4));
+}
+
+/// A mended word may lead outside the window, and a wrong bit of JC3 alone is told as mended.
+#[test]
+fn mended_words_outside_and_whole() {
+    let answer = Taken { standing: Standing::Outside, handed: 0, mended: true };
+    assert_eq!(taken(&mut Sink::new(), OPU0.with_mending(), [0x00, 0x00, 0x01]), answer);
+    let answer = Taken { standing: Standing::Read(0), handed: 0, mended: true };
+    assert_eq!(taken(&mut Sink::new(), EIGHT.with_mending(), [0x00, 0x00, 0x01]), answer);
+    assert_eq!(said(&mut Sink::new(), EIGHT.with_mending(), [0; 3]), Standing::Read(0));
+}
+
+/// The settings keep their patterns with mending on, and mending with other patterns.
+#[test]
+fn settings_with_both() {
+    let patterns = Patterns { plus1: 0, minus1: 0, plus2: 1, minus2: 1 };
+    let both = OPU0.with_patterns(patterns).with_mending();
+    assert_eq!(both, OPU0.with_mending().with_patterns(patterns));
+    assert_eq!(both, Settings { patterns: Some(patterns), mending: true, ..OPU0 });
+    assert!(!OPU0.mending && !OPU0.with_patterns(patterns).mending);
+    let mut sink = Sink::new();
+    assert_eq!(said(&mut sink, both, [0xE1, 0x1E, 0x74]), Standing::Waiting);
+    let answer = Taken { standing: Standing::Paired(14409), handed: 0, mended: true };
+    assert_eq!(taken(&mut sink, both, [0xE1, 0x22, 0x45]), answer);
 }
 
 /// The table 0, 0, 1, 1: a word of +1 and one of +2 may announce the same count.
@@ -282,9 +360,10 @@ fn frames_of_sinkshow() {
     let second = [0, 0, 0, 0x44, 0, 0x10, 0, 0x55, 0, 0xD0, 0, 0x66, 0, 0, 0, 0x77];
     let (mut sink, mut tally, mut out) = (Sink::new(), Tally::default(), [0; 8]);
     let mut call = |frame: &[u8]| sink.call(EIGHT, frame, &mut out, &mut tally);
-    assert_eq!(call(&first), Ok(Taken { standing: Standing::Waiting, handed: 0 }));
-    assert_eq!(call(&second), Ok(Taken { standing: Standing::Read(4), handed: 0 }));
-    assert_eq!(call(&second), Ok(Taken { standing: Standing::Read(4), handed: 4 }));
+    let answer = |standing, handed| Ok(Taken { standing, handed, mended: false });
+    assert_eq!(call(&first), answer(Standing::Waiting, 0));
+    assert_eq!(call(&second), answer(Standing::Read(4), 0));
+    assert_eq!(call(&second), answer(Standing::Read(4), 4));
     assert_eq!(out, [0x44, 0x55, 0x66, 0x77, 0, 0, 0, 0]);
     assert_eq!(tally, Tally { frames: 3, bad: 0, bytes: 4 });
 

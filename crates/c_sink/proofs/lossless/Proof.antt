@@ -1,18 +1,19 @@
 -- `c_sink::lossless` meets its contract: each case computes. Assumes nothing.
 use mathlib.Core.Path.{_≡_, refl, ap₂}
+use mathlib.Core.Bool.{Bool, true, false}
 use Prim.Native.Nat.{ℕ}
-use Rattle.refusals.specs.Table.{accepted}
+use Rattle.refusals.specs.Table.{Answer, accepted, refused}
 use Rattle.gmp_standing.specs.declared.Count.{Count}
 use Rattle.gmp_standing.specs.declared.Count.the-variants.{Known, Unknown}
 use Rattle.gmp_standing.specs.declared.Standing.{Standing}
 use Rattle.gmp_standing.specs.declared.Standing.the-variants.{Read, Tracked, Paired, BadCheck, Waiting, Outside}
-use Rattle.gmp_standing.specs.Standing.{standingMeaning}
+use Rattle.gmp_standing.specs.Standing.{Finding, standingMeaning}
 use Rattle.gmp_control.specs.declared.Remembered.{Remembered}
 use Rattle.gmp_control.specs.declared.Remembered.the-variants.{Word, Nothing}
 use Rattle.gmp_sink.specs.declared.SinkState.{SinkState}
 use Rattle.c_sink.specs.declared.SinkNumbers.{SinkNumbers}
 use Rattle.c_sink.specs.Numbers.{countFrom, countFlag, countValue, wordFrom, wordFlag, wordValue, stateFrom, stateNumbers, sinkReplyBy}
-use Rattle.c_sink.specs.Lossless.{answerFrom}
+use Rattle.c_sink.specs.Lossless.{answerFrom, mendedFrom}
 use Rattle.c_sink.proofs.lossless.Statement.{statement}
 use Rattle.c_sink.proofs.lossless.Tie as tie
 
@@ -27,16 +28,24 @@ word-back Nothing = refl
 state-back : (z : SinkState) → stateFrom (stateNumbers z) ≡ z
 state-back z = ap₂ (λ (c : Count) (w : Remembered). record { count = c; word = w }) (count-back (z .count)) (word-back (z .word))
 
-standing-back : (given : SinkNumbers) (x : Standing) (handed : ℕ) (z : SinkState) → answerFrom (sinkReplyBy given (accepted (standingMeaning x)) handed z) ≡ accepted (standingMeaning x)
-standing-back given (Read n) handed z = refl
-standing-back given (Tracked n) handed z = refl
-standing-back given (Paired n) handed z = refl
-standing-back given BadCheck handed z = refl
-standing-back given Waiting handed z = refl
-standing-back given Outside handed z = refl
+standing-back : (given : SinkNumbers) (x : Standing) (handed : ℕ) (b : Bool) (z : SinkState)
+    → answerFrom (sinkReplyBy given (accepted (standingMeaning x)) handed b z) ≡ accepted (standingMeaning x)
+standing-back given (Read n) handed b z = refl
+standing-back given (Tracked n) handed b z = refl
+standing-back given (Paired n) handed b z = refl
+standing-back given BadCheck handed b z = refl
+standing-back given Waiting handed b z = refl
+standing-back given Outside handed b z = refl
+
+mended-back : (given : SinkNumbers) (a : Answer Finding) (handed : ℕ) (b : Bool) (z : SinkState) → mendedFrom (sinkReplyBy given a handed b z) ≡ b
+mended-back given (accepted f) handed true z = refl
+mended-back given (accepted f) handed false z = refl
+mended-back given (refused n) handed true z = refl
+mended-back given (refused n) handed false z = refl
 
 returns : tie.Need-returns
-returns c = record { state = state-back; standing = standing-back; refusal = λ given n handed z. refl; tally = λ y. refl }
+returns c =
+    record { state = state-back; standing = standing-back; refusal = λ given n handed b z. refl; mended = mended-back; tally = λ y. refl }
 
 pub lossless-spec : {M : Type 1} → statement M
 lossless-spec = tie.close (tie.spec returns)

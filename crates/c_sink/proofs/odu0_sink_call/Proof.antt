@@ -1,6 +1,7 @@
 -- `c_sink::odu0_sink_call` meets its contract: what the call with the tally promises, in numbers.
 -- Assumes nothing.
 use mathlib.Core.Path.{_≡_, _∙_, ap, subst, subst⁻¹}
+use mathlib.Core.Bool.{Bool}
 use mathlib.Core.List.{List}
 use Prim.Native.Nat.{ℕ}
 use lib.ListN.{length}
@@ -11,7 +12,7 @@ use Rattle.gmp_standing.specs.Standing.{Finding}
 use Rattle.card_tally.specs.declared.Tally.{Tally}
 use Rattle.gmp_sink.specs.declared.SinkState.{SinkState}
 use Rattle.gmp_sink.specs.declared.SinkResult.{SinkResult}
-use Rattle.gmp_sink.specs.Sink.{answerMeaning, sinkAnswer, sinkHanded}
+use Rattle.gmp_sink.specs.Sink.{answerMeaning, sinkAnswer, sinkMended, sinkHanded}
 use Rattle.card_sink.specs.Card.{CallPromise}
 use Rattle.c_settings.specs.Numbers.{settingsFrom}
 use Rattle.c_sink.specs.declared.SinkNumbers.{SinkNumbers}
@@ -23,21 +24,22 @@ use Rattle.c_sink.proofs.odu0_sink_call.Tie as tie
 -- a call that keeps its promise keeps this one, in numbers
 in-numbers : (s : Settings) (given : SinkNumbers) (frame out tally : List ℕ) (r : SinkResult) (out-after : List ℕ) (y : Tally)
     → CallPromise s (stateFrom given) frame out (tallyFrom tally) r out-after y
-    → SinkCallPromise s given frame out tally (sinkReplyBy given (answerMeaning (r .answer)) (r .handed) (r .state)) out-after (tallyNumbers y)
+    → SinkCallPromise s given frame out tally (sinkReplyBy given (answerMeaning (r .answer)) (r .handed) (r .mended) (r .state)) out-after (tallyNumbers y)
 in-numbers s given frame out tally r out-after y p =
     let z = stateFrom given in
     record {
       reply =
-          ap (λ (a : Answer Finding). sinkReplyBy given a (r .handed) (r .state)) (p .sink .answer)
-          ∙ ap (λ (n : ℕ). sinkReplyBy given (sinkAnswer s z frame out) n (r .state)) (p .sink .handed-bytes)
-          ∙ ap (sinkReplyBy given (sinkAnswer s z frame out) (length (sinkHanded s z frame out))) (p .sink .state);
+          ap (λ (a : Answer Finding). sinkReplyBy given a (r .handed) (r .mended) (r .state)) (p .sink .answer)
+          ∙ ap (λ (n : ℕ). sinkReplyBy given (sinkAnswer s z frame out) n (r .mended) (r .state)) (p .sink .handed-bytes)
+          ∙ ap (λ (b : Bool). sinkReplyBy given (sinkAnswer s z frame out) (length (sinkHanded s z frame out)) b (r .state)) (p .sink .mended)
+          ∙ ap (sinkReplyBy given (sinkAnswer s z frame out) (length (sinkHanded s z frame out)) (sinkMended s frame out)) (p .sink .state);
       out-buffer = p .sink .out-buffer;
       tally-numbers = ap tallyNumbers (p .tally);
     }
 
 -- the same of a call with the settings u and the state x that the numbers stand for
 of-numbers : (u s : Settings) (x : SinkState) (given : SinkNumbers) (frame out tally : List ℕ) (r : SinkResult) (out-after : List ℕ) (y : Tally) (w : SinkReply)
-    → u ≡ s → x ≡ stateFrom given → w ≡ sinkReplyBy given (answerMeaning (r .answer)) (r .handed) (r .state)
+    → u ≡ s → x ≡ stateFrom given → w ≡ sinkReplyBy given (answerMeaning (r .answer)) (r .handed) (r .mended) (r .state)
     → CallPromise u x frame out (tallyFrom tally) r out-after y → SinkCallPromise s given frame out tally w out-after (tallyNumbers y)
 of-numbers u s x given frame out tally r out-after y w e f g p =
     subst⁻¹ (λ (v : SinkReply). SinkCallPromise s given frame out tally v out-after (tallyNumbers y)) g

@@ -3,6 +3,9 @@ use borrow.Author.Needs.{needs}
 use Rattle.c_sink.proofs.sink_reply.Statement.{statement}
 use Rattle.c_sink.proofs.sink_reply.Tie as tie
 
+flag-requires : tie.Need-flag-requires
+flag-requires c κs = search needs
+
 enum-known-answer : tie.Need-enum-known-answer
 enum-known-answer c = search needs
 
@@ -29,15 +32,17 @@ returns c =
     let found = c .before .before .before .found-count .ensures in
     let numbers = c .before .before .count-numbers .ensures in
     let done = c .before .before .before .before .before .answer .given .1 in
-    simp (c .state-numbers .ensures, c .before .standing-number .ensures, numbers .1, numbers .0, found, done)
+    let mended = c .before .before .before .before .before .before .before .flag .ensures in
+    simp (c .state-numbers .ensures, c .before .standing-number .ensures, numbers .1, numbers .0, found, mended, done)
 
 returns-2 : tie.Need-returns-2
-returns-2 c = simp (c .refusal-number .ensures, c .before .before .answer2 .given .1)
+returns-2 c = simp (c .refusal-number .ensures, c .before .before .before .before .flag .ensures, c .before .before .answer2 .given .1)
 
 pub sink-reply-spec : {M : Type 1} → statement M
 sink-reply-spec =
     tie.close
     (tie.spec
+    flag-requires
     enum-known-answer
     found-count-requires
     count-numbers-requires

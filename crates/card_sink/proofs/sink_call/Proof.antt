@@ -86,7 +86,7 @@ T-vals = LL.vals T.the-type T′.the-laws
 abbrev R-vals : SinkResult → List Val
 R-vals = LL.vals R.the-type R′.the-laws
 
--- the fields of what `count_call` returns: the sink's result at its start, and the tally 32 bytes
+-- the fields of what `count_call` returns: the sink's result at its start, and the tally 36 bytes
 -- behind that. The walk names them where it reads a field, since antt would fill them in at length.
 abbrev parts : Tys
 parts = tcons R′.mir (tcons T′.mir tnil)
@@ -185,7 +185,7 @@ module _ {M : Type 1} (𝓤 : URA M) (H : Heap 𝓤) (A : Atoms 𝓤) (W : Given
         -- [the result; the tokens; the last list; the frame's; the tally's cell; the open borrow;
         -- obs; auth; _9; …]
         land ! (from ! (stop !)) (init ! 14 refl (LL.lawful P.the-type P′.the-laws 𝓤 H A W .typed r _ is .0)) $ rewrite ! 14 (λ (u : Val). ‵ (fat fullShare P′.mir l₆ 0 u)) (ap only (LL.tells P.the-type P′.the-laws r _ is)) refl $
-        assigns ! (of-opd ! (load ! (from ! (fld ! {τ = T′.mir} {d = 32} refl (stop !))) (look-in ! 14 {τ = T′.mir} (sub ! {τs = parts} 1 {τ = T′.mir} {d = 32} refl (whole !))))) (from ! (hop ! (look ! 16 refl) (stop !))) (store-raw ! 4 refl (LL.lawful T.the-type T′.the-laws 𝓤 H A W .typed (r .tally) _ (fields .1 .0) .0)) $
+        assigns ! (of-opd ! (load ! (from ! (fld ! {τ = T′.mir} {d = 36} refl (stop !))) (look-in ! 14 {τ = T′.mir} (sub ! {τs = parts} 1 {τ = T′.mir} {d = 36} refl (whole !))))) (from ! (hop ! (look ! 16 refl) (stop !))) (store-raw ! 4 refl (LL.lawful T.the-type T′.the-laws 𝓤 H A W .typed (r .tally) _ (fields .1 .0) .0)) $
         assigns ! (of-opd ! (load ! (from ! (fld ! {τ = R′.mir} {d = 0} refl (stop !))) (look-in ! 14 {τ = R′.mir} (sub ! {τs = parts} 0 {τ = R′.mir} {d = 0} refl (whole !))))) (from ! (stop !)) (init ! 26 refl (LL.lawful R.the-type R′.the-laws 𝓤 H A W .typed (r .result) _ (fields .0) .0)) $
         owned ! T.the-row (Is T.the-row) (LL.makes T.the-type T′.the-plain 𝓤 H A) (r .tally) _ (fields .1 .0) $ move ! (5 ∷ 0 ∷ 6 ∷ 7 ∷ 8 ∷ []) $ closes ! tt T.the-row (r .tally) (T-vals (r .tally)) b o $
         -- [obs; the borrow; token 2; the result; the tokens; the last list; the frame's; _9; …]

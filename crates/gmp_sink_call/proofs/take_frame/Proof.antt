@@ -5,7 +5,7 @@ use borrow.Author.Needs.{needs}
 use Rattle.refusals.specs.Table.{refused}
 use Rattle.gmp_refusal.specs.Refusal.{verdictNumber}
 use Rattle.gmp_refusal.proofs.Laws.{refused-has-number}
-use Rattle.gmp_sink.proofs.Laws.{answer-refused, state-refused, handed-refused, out-refused}
+use Rattle.gmp_sink.proofs.Laws.{answer-refused, state-refused, mended-refused, handed-refused, out-refused}
 use Rattle.gmp_sink_call.proofs.take_frame.Statement.{statement}
 use Rattle.gmp_sink_call.proofs.take_frame.Tie as tie
 
@@ -36,6 +36,7 @@ returns-2 c =
       answer = ap refused (sym e) ∙ sym (answer-refused (g .settings) (g .state) (g .frame .now) (g .out .now) not-zero);
       state = sym (state-refused (g .settings) (g .state) (g .frame .now) (g .out .now) not-zero);
       handed-bytes = sym (ap length (handed-refused (g .settings) (g .state) (g .frame .now) (g .out .now) not-zero));
+      mended = sym (mended-refused (g .settings) (g .state) (g .frame .now) (g .out .now) not-zero);
       out-buffer = sym (out-refused (g .settings) (g .state) (g .frame .now) (g .out .now) not-zero);
     }
 

@@ -1,11 +1,17 @@
 -- `odu0demap::demap_frame` meets its contract. Assumes nothing.
-use Rattle.odu0demap.proofs.Laws.{not-refused, takes}
+use mathlib.Core.Path.{_∙_, ap}
 use borrow.Author.Needs.{needs}
+use Rattle.gmp_settings.specs.declared.Settings.{Settings}
+use Rattle.gmp_settings.specs.Settings.{withMending}
+use Rattle.odu0demap.proofs.Laws.{not-refused, takes}
 use Rattle.odu0demap.proofs.demap_frame.Statement.{statement}
 use Rattle.odu0demap.proofs.demap_frame.Tie as tie
 
 opu0-requires : tie.Need-opu0-requires
 opu0-requires c κs = search needs
+
+with-mending-requires : tie.Need-with-mending-requires
+with-mending-requires c κs = search needs
 
 lend-call-requires : tie.Need-lend-call-requires
 lend-call-requires c κs = search needs
@@ -21,12 +27,15 @@ same-length c = search needs
 
 returns : tie.Need-returns
 returns c =
-    let start = c .before .before .before .before .before .before .before .before .before .before .before .before .before in
+    let start = c .before .before .before .before .before .before .before .before .before .before .before .before .before .before in
     let g = start .args in
     let k = c .before .before .before .before .before .before .before .lend-call in
-    let promise = rw (c .before .before .before .before .before .before .before .before .before .before .opu0 .ensures) at (k .ensures) in
+    let settings =
+    c .before .before .before .before .before .before .before .before .before .before .with-mending .ensures
+    ∙ ap (λ (s : Settings). withMending s (g .mending)) (c .before .before .before .before .before .before .before .before .before .before .before .opu0 .ensures) in
+    let promise = rw settings at (k .ensures) in
     absurd
-    (not-refused (g .demapper) (g .frame .now) (g .out .now) (start .pre .0) (start .pre .1) (k .result .result) _ (k .result .tally)
+    (not-refused (g .mending) (g .demapper) (g .frame .now) (g .out .now) (start .pre .0) (start .pre .1) (k .result .result) _ (k .result .tally)
     promise _ (c .enum-told .given .1))
 
 standing-number-requires : tie.Need-standing-number-requires
@@ -37,11 +46,14 @@ same-length-2 c = search needs
 
 returns-2 : tie.Need-returns-2
 returns-2 c =
-    let start = c .before .before .before .before .before .before .before .before .before .before .before .before .before .before .before in
+    let start = c .before .before .before .before .before .before .before .before .before .before .before .before .before .before .before .before in
     let g = start .args in
     let k = c .before .before .before .before .before .before .before .before .before .lend-call in
-    let promise = rw (c .before .before .before .before .before .before .before .before .before .before .before .before .opu0 .ensures) at (k .ensures) in
-    takes (g .demapper) (g .frame .now) (g .out .now) (start .pre .0) (start .pre .1) (k .result .result) _ (k .result .tally) promise _
+    let settings =
+    c .before .before .before .before .before .before .before .before .before .before .before .before .with-mending .ensures
+    ∙ ap (λ (s : Settings). withMending s (g .mending)) (c .before .before .before .before .before .before .before .before .before .before .before .before .before .opu0 .ensures) in
+    let promise = rw settings at (k .ensures) in
+    takes (g .mending) (g .demapper) (g .frame .now) (g .out .now) (start .pre .0) (start .pre .1) (k .result .result) _ (k .result .tally) promise _
     (c .before .before .answer .given .1) _ (c .standing-number .ensures)
 
 pub demap-frame-spec : {M : Type 1} → statement M
@@ -49,6 +61,7 @@ demap-frame-spec =
     tie.close
     (tie.spec
     opu0-requires
+    with-mending-requires
     lend-call-requires
     enum-known-answer
     enum-told

@@ -4,7 +4,7 @@
 //! A case draws its random numbers from the seed, the test's name and its own index, so it can be
 //! run again alone. SEED sets another seed, CASE runs one case only, RUNS multiplies the cases.
 
-use second::{pattern, Keeper, Random, Settings, Sink, Source, Standing, Tally};
+use second::{pattern, Keeper, Random, Settings, Sink, Source, Standing, Taken, Tally};
 use std::fmt;
 use std::io::Write;
 use std::time::Instant;
@@ -24,6 +24,8 @@ pub struct Done {
     pub refused: [u64; 15],
     /// Sink calls, by what they answered.
     pub standings: [u64; 6],
+    /// Those of them that mended a word, by what they answered.
+    pub mended: [u64; 6],
 }
 
 /// One case of a test, with what is needed to run it again.
@@ -188,7 +190,7 @@ impl Case {
         frame: &[u8],
         out: &mut [u8],
         tally: &mut Tally,
-    ) -> Result<(Standing, u32), u32> {
+    ) -> Result<Taken, u32> {
         self.last = Some(Call::Sink(settings, state.clone(), frame.to_vec(), out.to_vec(), *tally));
         let mut their_frame = Lent::new(self.index, frame);
         let mut their_out = Lent::new(self.index, out);
@@ -197,7 +199,7 @@ impl Case {
             odu0::Tally { frames: tally.frames, bad: tally.bad, bytes: tally.bytes };
         let theirs = their_state
             .call(settings_of(settings), their_frame.lent(), their_out.lent(), &mut their_tally)
-            .map(|taken| (standing_of(taken.standing), taken.handed))
+            .map(taken_of)
             .map_err(odu0::Refusal::number);
         let ours = state.call(settings, frame, out, tally);
         assert_eq!(theirs, ours, "the answer: library, second");
@@ -209,8 +211,9 @@ impl Case {
         their_frame.must_be("frame", frame);
         their_out.must_be("output", out);
         self.count_frame(settings, ours.err());
-        if let Ok((standing, _)) = ours {
+        if let Ok(Taken { standing, mended, .. }) = ours {
             self.done.standings[place(standing)] += 1;
+            self.done.mended[place(standing)] += u64::from(mended);
         }
         ours
     }
@@ -218,7 +221,7 @@ impl Case {
     pub fn count_frame(&mut self, settings: Settings, refusal: Option<u32>) {
         match refusal {
             Some(number) => self.done.refused[number as usize] += 1,
-            None if Settings { patterns: None, ..settings } == Settings::OPU0 => {
+            None if Settings { patterns: None, mending: false, ..settings } == Settings::OPU0 => {
                 self.done.opu0 += 1
             }
             None if settings.k > 40 => self.done.large += 1,
@@ -235,7 +238,10 @@ impl Case {
 }
 
 pub fn settings_of(settings: Settings) -> odu0::Settings {
-    let same = odu0::Settings::new(settings.k, settings.lo, settings.hi);
+    let mut same = odu0::Settings::new(settings.k, settings.lo, settings.hi);
+    if settings.mending {
+        same = same.with_mending();
+    }
     if settings.patterns.is_none() {
         return same;
     }
@@ -245,6 +251,11 @@ pub fn settings_of(settings: Settings) -> odu0::Settings {
 
 fn back(state: odu0::Source) -> Source {
     Source { count: state.count, multiframe: state.multiframe, payload_type: state.payload_type }
+}
+
+fn taken_of(taken: odu0::Taken) -> Taken {
+    let odu0::Taken { standing, handed, mended } = taken;
+    Taken { standing: standing_of(standing), handed, mended }
 }
 
 fn standing_of(standing: odu0::Standing) -> Standing {

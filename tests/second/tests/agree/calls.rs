@@ -6,7 +6,7 @@ use second::{check, Keeper, Settings, Sink, Source, Tally};
 
 #[test]
 fn random_sink_calls() {
-    let done = cases("random_sink_calls", 900_000, |case| {
+    let done = cases("random_sink_calls", 1_200_000, |case| {
         let random = &mut case.random;
         let settings = any_settings(random);
         let mut state = any_sink(random, settings);
@@ -22,6 +22,12 @@ fn random_sink_calls() {
     });
     if all_cases() {
         assert!(done.standings.iter().all(|times| *times > 1000), "{:?}", done.standings);
+        let [read, tracked, paired, bad, waiting, outside] = done.mended;
+        assert!(
+            bad == 0 && [read, tracked, paired, waiting, outside].iter().all(|times| *times > 1000),
+            "{:?}",
+            done.mended
+        );
         assert!(
             [1, 2, 8, 9, 14].iter().all(|number| done.refused[*number] > 1000),
             "{:?}",
@@ -70,14 +76,18 @@ fn random_source_calls() {
 /// Counts that a pattern leads to are thousands apart, so only a large grid can confuse them.
 #[test]
 fn hostile_states_on_large_grids() {
-    let done = cases("hostile_states_on_large_grids", 30_000, |case| {
+    let done = cases("hostile_states_on_large_grids", 40_000, |case| {
         let random = &mut case.random;
         let settings = large_settings(random);
         let old = count_inside(random, settings);
         let word = word_after(random, settings, old);
         let mut state = hostile_sink(random, settings, word);
         let mut frame = random.bytes(settings.frame() as usize);
-        put_control(settings, &mut frame, [(word >> 8) as u8, word as u8, check(word) as u8]);
+        let mut control = [(word >> 8) as u8, word as u8, check(word) as u8];
+        if random.once_in(4) {
+            flip(random, &mut control, 1);
+        }
+        put_control(settings, &mut frame, control);
         let mut out = vec![0x5A; settings.hi as usize + random.below(3) as usize];
         let mut tally = any_tally(random);
         let _ = case.sink(settings, &mut state, &frame, &mut out, &mut tally);
@@ -117,6 +127,7 @@ fn buffers_of_every_length() {
 /// A sink's and a source's call with buffers of these lengths.
 fn lend(case: &mut Case, settings: Settings, frame: usize, other: usize) {
     let random = &mut case.random;
+    let settings = Settings { mending: random.once_in(2), ..settings };
     let count = count_inside(random, settings);
     let (mut frame, mut other) = (random.bytes(frame), random.bytes(other));
     let mut source = Source { count, multiframe: 0, payload_type: 0xFF };
@@ -129,10 +140,13 @@ fn lend(case: &mut Case, settings: Settings, frame: usize, other: usize) {
 #[test]
 fn tallies_near_the_largest() {
     cases("tallies_near_the_largest", 1, |case| {
-        let settings = Settings::new(2, 0, 8);
+        let off = Settings::new(2, 0, 8);
+        // Zeros, which are whole; ones; and zeros with one wrong bit and with two.
+        let controls = [[0; 3], [0xFF; 3], [0, 0, 1], [0, 0, 3]];
+        let all = controls.map(|control| [(off, control), (off.with_mending(), control)]).concat();
         for left in (0..=10).chain([u32::MAX]) {
             for count in 0..=8 {
-                for control in [[0; 3], [0xFF; 3]] {
+                for &(settings, control) in &all {
                     let mut frame = case.random.bytes(16);
                     put_control(settings, &mut frame, control);
                     let value = u32::MAX - left;
@@ -153,8 +167,8 @@ fn keeper_calls_and_their_sum() {
     cases("keeper_calls_and_their_sum", 60_000, |case| {
         let random = &mut case.random;
         let settings = match random.below(4) {
-            0 => some_patterns(random, Settings::OPU0),
-            1 => some_patterns(random, WIDE),
+            0 => varied(random, Settings::OPU0),
+            1 => varied(random, WIDE),
             _ => any_settings(random),
         };
         let q = match random.below(8) {

@@ -4,7 +4,7 @@
 use crate::both::{cases, settings_of, Lent};
 use crate::given::*;
 use odu0::ffi;
-use second::{Random, Settings, Standing, Tally};
+use second::{Random, Settings, Standing, Taken, Tally};
 use std::ptr::null_mut;
 
 /// A flag that says this: 0 for no, any other value for yes.
@@ -21,7 +21,8 @@ pub fn fields_of(settings: Settings) -> ffi::Settings {
     settings_of(settings).into()
 }
 
-/// The fields of settings with any flag that says the same, and any four numbers beside one of 0.
+/// The fields of settings with any flags that say the same, and any four numbers where no patterns
+/// are given.
 pub fn any_fields(random: &mut Random, settings: Settings) -> ffi::Settings {
     let mut fields = fields_of(settings);
     if settings.patterns.is_none() {
@@ -30,6 +31,7 @@ pub fn any_fields(random: &mut Random, settings: Settings) -> ffi::Settings {
         [fields.plus1, fields.minus1, fields.plus2, fields.minus2] = four;
     }
     fields.given = any_flag(random, settings.patterns.is_some());
+    fields.mending = any_flag(random, settings.mending);
     fields
 }
 
@@ -66,15 +68,17 @@ fn fields_of_a_sink_call() {
         };
         let answer = state.call(settings, &frame, &mut out, &mut tally);
 
-        let (refusal, standing, count, handed) = match answer {
-            Err(number) => (number, 0, None, 0),
-            Ok((standing, handed)) => (0, standing_number(standing), standing.count(), handed),
+        let (refusal, standing, count, handed, mended) = match answer {
+            Err(number) => (number, 0, None, 0, 0),
+            Ok(Taken { standing, handed, mended }) => {
+                (0, standing_number(standing), standing.count(), handed, mended.into())
+            }
         };
         let said = || format!("{fields:?}, {given:?}, frame {frame:02X?}: {reply:?}");
         assert_eq!((reply.refusal, reply.standing), (refusal, standing), "{}", said());
         assert_eq!(reply.found, u32::from(count.is_some()), "{}", said());
         assert_eq!(reply.count, count.unwrap_or(0), "{}", said());
-        assert_eq!(reply.handed, handed, "{}", said());
+        assert_eq!((reply.handed, reply.mended), (handed, mended), "{}", said());
         let left = odu0::Sink::from(reply.state);
         assert_eq!((left.count, left.word), (state.count, state.word), "{}", said());
         if refusal != 0 {

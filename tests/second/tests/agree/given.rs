@@ -46,8 +46,9 @@ pub fn broken(random: &mut Random) -> [u32; 4] {
     four
 }
 
-/// The settings, half the time with patterns that keep the rule.
-pub fn some_patterns(random: &mut Random, settings: Settings) -> Settings {
+/// The settings, half the time with patterns that keep the rule, and half the time with mending on.
+pub fn varied(random: &mut Random, settings: Settings) -> Settings {
+    let settings = Settings { mending: random.once_in(2), ..settings };
     if random.once_in(2) {
         settings.with_patterns(kept(random))
     } else {
@@ -68,7 +69,7 @@ pub fn small_settings(random: &mut Random) -> Settings {
         4 => random.of(&[(0, 0), (s, s)]),
         _ => (one.min(two), one.max(two)),
     };
-    some_patterns(random, Settings::new(k, lo, hi))
+    varied(random, Settings::new(k, lo, hi))
 }
 
 /// Settings of every sort, most of them accepted.
@@ -174,13 +175,15 @@ pub fn any_tally(random: &mut Random) -> Tally {
 }
 
 /// Control bytes of the worked frames.
-const WORKED: [[u8; 3]; 6] = [
+const WORKED: [[u8; 3]; 8] = [
     [0x00; 3],
     [0xFF; 3],
     [0x4B, 0xB6, 0x38],
     [0x4B, 0x8A, 0x19],
     [0xE1, 0x1E, 0x74],
     [0xE1, 0x22, 0x55],
+    [0x00, 0x10, 0xC0],
+    [0x00, 0x10, 0xD0],
 ];
 
 /// Three control bytes that a sink in this state may well follow, or not.
@@ -201,9 +204,14 @@ pub fn any_control(random: &mut Random, settings: Settings, state: &Sink) -> [u8
         _ => word_after(random, settings, old),
     };
     let mut control = [(word >> 8) as u8, word as u8, check(word) as u8];
-    if choice == 13 {
-        let times = random.from_to(1, 5);
-        flip(random, &mut control, times);
+    match choice {
+        13 => {
+            let times = random.from_to(1, 5);
+            flip(random, &mut control, times);
+        }
+        // One wrong bit, in a word that a sink in this state follows, or in another.
+        4 | 9 | 14 => flip(random, &mut control, 1),
+        _ => {}
     }
     control
 }
@@ -263,7 +271,7 @@ pub fn large_settings(random: &mut Random) -> Settings {
         0 => Settings::new(k, one.min(two), one.max(two)),
         _ => Settings::new(k, 0, 4 * k),
     };
-    some_patterns(random, settings)
+    varied(random, settings)
 }
 
 /// A false count which a word may seem to continue, and a false word before it.

@@ -1,7 +1,7 @@
 //! The running total of a new rate keeper (02, P7): "nearest to t × p / q, exact halves going up".
 
 use crate::both::{cases, Case};
-use crate::given::{broken, small_settings, some_patterns, WIDE};
+use crate::given::{broken, small_settings, varied, WIDE};
 use second::{nearest, Settings};
 
 /// Whether T is nearest to t × p / q, exact halves going up, by the sentence that a partner cites.
@@ -57,8 +57,8 @@ fn totals_of_new_keepers() {
     cases("totals_of_new_keepers", 20_000, |case| {
         let random = &mut case.random;
         let settings = match random.below(4) {
-            0 => some_patterns(random, Settings::OPU0),
-            1 => some_patterns(random, WIDE),
+            0 => varied(random, Settings::OPU0),
+            1 => varied(random, WIDE),
             _ => small_settings(random),
         };
         let any = random.from_to(1, 65535);

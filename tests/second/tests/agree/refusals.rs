@@ -16,11 +16,12 @@ fn settings_for_refusals() -> Vec<Settings> {
             all.push(Settings::new(k, lo, hi));
         }
     }
-    // The paper's patterns; given ones that keep the rule, and that do not by one bit.
+    // The paper's patterns; given ones that keep the rule, and that do not by one bit. Mending off
+    // and on, which refuses nothing.
     let with = |settings: &Settings| {
         [*settings, settings.with_patterns([0, 0, 1, 1]), settings.with_patterns([0, 0, 1, 3])]
     };
-    all.iter().flat_map(with).collect()
+    all.iter().flat_map(with).flat_map(|off| [off, off.with_mending()]).collect()
 }
 
 /// Lengths around a right one; some short ones where that one is too long to lend.

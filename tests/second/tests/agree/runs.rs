@@ -2,20 +2,30 @@
 
 use crate::both::{all_cases, cases, Case};
 use crate::given::*;
-use second::{word, Random, Settings, Sink, Standing, Tally};
+use second::{word, Random, Settings, Sink, Standing, Taken, Tally};
 
 /// A frame as an accepted source call wrote it.
-struct Written {
-    frame: Vec<u8>,
-    load: Vec<u8>,
+pub struct Written {
+    pub frame: Vec<u8>,
+    pub load: Vec<u8>,
     /// The payload's count.
-    old: u32,
+    pub old: u32,
     /// The count that the frame announces.
-    next: u32,
+    pub next: u32,
+}
+
+impl Written {
+    /// What a sink that holds the frame's count says of it.
+    pub fn followed(&self, settings: Settings) -> Standing {
+        match word(settings, self.old, self.next) & 3 {
+            1 | 2 => Standing::Tracked(self.next),
+            _ => Standing::Read(self.next),
+        }
+    }
 }
 
 /// A source run: so many accepted calls, with refused ones between them.
-fn source_run(case: &mut Case, settings: Settings, frames: usize) -> Vec<Written> {
+pub fn source_run(case: &mut Case, settings: Settings, frames: usize) -> Vec<Written> {
     let first = count_inside(&mut case.random, settings);
     let payload_type = case.random.u32() as u8;
     let mut source = case.source_new(settings, first, payload_type).unwrap();
@@ -53,9 +63,13 @@ fn source_run(case: &mut Case, settings: Settings, frames: usize) -> Vec<Written
 fn harm(case: &mut Case, settings: Settings, frame: &mut [u8]) {
     let random = &mut case.random;
     let times = random.from_to(1, 6);
-    match random.below(4) {
+    match random.below(5) {
         0 => random.fill(frame),
         1 => flip(random, frame, times),
+        3 => {
+            let at = random.of(&control_bytes(settings));
+            flip(random, &mut frame[at..at + 1], 1);
+        }
         2 => {
             // The reserved bytes and the PSI byte.
             let row = settings.k as usize + 2;
@@ -136,7 +150,7 @@ fn runs_on_small_grids() {
 #[test]
 fn runs_on_opu0() {
     let done = cases("runs_on_opu0", 80, |case| {
-        let settings = some_patterns(&mut case.random, Settings::OPU0);
+        let settings = varied(&mut case.random, Settings::OPU0);
         rough_line(case, settings, 50);
     });
     assert!(done.opu0 > 10_000 || !all_cases());
@@ -152,21 +166,24 @@ fn runs_over_many_multiframes() {
 
 #[test]
 fn a_clean_run_on_opu0() {
-    cases("a_clean_run_on_opu0", 1, |case| {
+    cases("a_clean_run_on_opu0", 2, |case| {
+        let opu0 = Settings { mending: case.index == 1, ..Settings::OPU0 };
         let mut keeper = case.keeper_new(1296);
-        let first = case.keeper(Settings::OPU0, &mut keeper, 18671875, 1296).unwrap();
-        let mut source = case.source_new(Settings::OPU0, first, 0x07).unwrap();
+        let first = case.keeper(opu0, &mut keeper, 18671875, 1296).unwrap();
+        let mut source = case.source_new(opu0, first, 0x07).unwrap();
         let (mut sink, mut tally, mut out) = (Sink::new(), Tally::default(), vec![0; 14410]);
         for n in 0..520 {
             let client = case.random.bytes(source.count as usize);
-            let next = case.keeper(Settings::OPU0, &mut keeper, 18671875, 1296).unwrap();
+            let next = case.keeper(opu0, &mut keeper, 18671875, 1296).unwrap();
             let mut frame = vec![0xEE; 15240];
-            case.source(Settings::OPU0, &mut source, next, &client, &mut frame).unwrap();
+            case.source(opu0, &mut source, next, &client, &mut frame).unwrap();
             assert_eq!(frame[3 * 3810], if n % 256 == 0 { 0x07 } else { 0 });
-            let taken = case.sink(Settings::OPU0, &mut sink, &frame, &mut out, &mut tally).unwrap();
+            let taken = case.sink(opu0, &mut sink, &frame, &mut out, &mut tally).unwrap();
             // The first frame says only "one more", and with the second the sink holds the count.
-            assert_eq!(sink.count, (n > 0).then_some(next));
-            assert!(n < 2 || (taken.1, &out[..client.len()]) == (client.len() as u32, &client));
+            assert_eq!((sink.count, taken.mended), ((n > 0).then_some(next), false));
+            assert!(
+                n < 2 || (taken.handed, &out[..client.len()]) == (client.len() as u32, &client)
+            );
         }
     });
 }
@@ -185,11 +202,8 @@ pub fn back_after_two_frames(case: &mut Case, settings: Settings, frames: usize)
     }
     let mut tally = any_tally(&mut case.random);
     for n in 1..=frames {
-        let Written { frame, load, old, next } = &written[n - 1];
-        let announced = match word(settings, *old, *next) & 3 {
-            1 | 2 => Standing::Tracked(*next),
-            _ => Standing::Read(*next),
-        };
+        let Written { frame, load, next, .. } = &written[n - 1];
+        let standing = written[n - 1].followed(settings);
         for (sink, from) in [(&mut new, 1), (&mut any, m)] {
             if n < from {
                 continue;
@@ -207,11 +221,8 @@ pub fn back_after_two_frames(case: &mut Case, settings: Settings, frames: usize)
                 assert_eq!(sink.count, Some(*next), "after frame {n}, from frame {from}");
             }
             if n > from + 1 {
-                assert_eq!(
-                    answer,
-                    Ok((announced, load.len() as u32)),
-                    "frame {n}, from frame {from}"
-                );
+                let taken = Taken { standing, handed: load.len() as u32, mended: false };
+                assert_eq!(answer, Ok(taken), "frame {n}, from frame {from}");
                 assert!(out[..load.len()] == load[..], "load {n}, from frame {from}");
                 assert!(
                     out[load.len()..] == before[load.len()..],
@@ -222,8 +233,8 @@ pub fn back_after_two_frames(case: &mut Case, settings: Settings, frames: usize)
     }
 }
 
-/// The second claim: with at most three wrong control bits in each frame, a new sink never holds a
-/// false count.
+/// The second claim: with at most three wrong control bits in each frame, and with mending on at
+/// most two, a new sink never holds a false count.
 pub fn no_false_count(case: &mut Case, settings: Settings, frames: usize) {
     let written = source_run(case, settings, frames);
     let m = 1 + case.random.below(frames as u64) as usize;
@@ -242,7 +253,7 @@ pub fn no_false_count(case: &mut Case, settings: Settings, frames: usize) {
                 random.fill(&mut frame);
                 put_control(settings, &mut frame, control);
             }
-            for _ in 0..random.from_to(0, 3) {
+            for _ in 0..random.from_to(0, if settings.mending { 2 } else { 3 }) {
                 let at = random.of(&control_bytes(settings));
                 flip(random, &mut frame[at..at + 1], 1);
             }
@@ -262,12 +273,12 @@ pub fn no_false_count(case: &mut Case, settings: Settings, frames: usize) {
 /// Watches a claim on source runs of small settings, from so many frames on, and every tenth time
 /// on OPU0's and on large settings too.
 fn watch(name: &'static str, least: u32, claim: fn(&mut Case, Settings, usize)) {
-    cases(name, 3_000, |case| {
+    cases(name, 6_000, |case| {
         let settings = small_settings(&mut case.random);
         let frames = case.random.from_to(least, 60) as usize;
         claim(case, settings, frames);
         if case.index % 10 == 0 {
-            let settings = some_patterns(&mut case.random, Settings::OPU0);
+            let settings = varied(&mut case.random, Settings::OPU0);
             claim(case, settings, 6);
             let settings = large_settings(&mut case.random);
             claim(case, settings, 6);

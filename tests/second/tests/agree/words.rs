@@ -1,9 +1,10 @@
 //! The check of every control word (02, P5: "Nothing that the check says changes"), beside the
-//! equations that G.709 gives for it in Table IX.1 and the division of the second implementation.
+//! equations that G.709 gives for it in Table IX.1 and the division of the second implementation;
+//! and every word mended (02, P1).
 
 use crate::both::settings_of;
 use crate::given::{control_bytes, put_control, WIDE};
-use odu0::{Sink, Source, Standing, Tally};
+use odu0::{Sink, Source, Standing, Taken, Tally};
 use second::{check, Settings};
 
 /// Table IX.1: for JC1's C1 to C8 and JC2's C9 to C14, II and DI the bits of JC3, crc1 to crc8,
@@ -34,11 +35,47 @@ fn every_word_that_is_read() {
         for jc3 in 0..=255 {
             put_control(settings, &mut frame, [jc1, jc2, jc3]);
             let taken = Sink::new().call(settings_of(settings), &frame, &mut out, &mut tally);
-            let bad = taken.unwrap().standing == Standing::BadCheck;
-            assert_eq!(bad, jc3 != right, "{word:04X} {jc3:02X}");
+            let taken = taken.unwrap();
+            let bad = taken.standing == Standing::BadCheck;
+            assert_eq!((bad, taken.mended), (jc3 != right, false), "{word:04X} {jc3:02X}");
         }
     }
     assert_eq!((tally.frames, tally.bad), (1 << 24, 255 << 16));
+}
+
+/// With mending on a new sink reads every 24 bits as the one word near them, if there is one. Near
+/// a word are its own bits with the right JC3, and those with one of the 24 turned over.
+#[test]
+fn every_word_that_is_mended() {
+    let mut near = vec![None; 1 << 24];
+    for word in 0..=u16::MAX {
+        let whole = u32::from(word) << 8 | u32::from(equated(word));
+        for bits in [whole].into_iter().chain((0..24).map(|bit| whole ^ 1 << bit)) {
+            let other = near[bits as usize].replace((word, bits != whole));
+            assert_eq!(other, None, "{bits:06X} is near two words");
+        }
+    }
+    let settings = settings_of(WIDE.with_mending());
+    let mut frame = vec![0; WIDE.frame() as usize];
+    let (mut out, mut tally) = (vec![0; WIDE.hi as usize], Tally::default());
+    for (bits, near) in (0_u32..).zip(near) {
+        let [_, jc1, jc2, jc3] = bits.to_be_bytes();
+        put_control(WIDE, &mut frame, [jc1, jc2, jc3]);
+        let mut sink = Sink::new();
+        let taken = sink.call(settings, &frame, &mut out, &mut tally).unwrap();
+        let (word, mended) = near.map_or((None, false), |(word, mended)| (Some(word), mended));
+        let count = word.map(|word| u32::from(word >> 2));
+        let (standing, remembered) = match (word.map(|word| word & 3), count) {
+            (Some(1 | 2), _) => (Standing::Waiting, word.map(u32::from)),
+            (Some(_), Some(count)) if WIDE.holds(count) => (Standing::Read(count), None),
+            (Some(_), _) => (Standing::Outside, None),
+            (None, _) => (Standing::BadCheck, None),
+        };
+        assert_eq!(taken, Taken { standing, handed: 0, mended }, "{bits:06X}");
+        assert_eq!((sink.count, sink.word), (standing.count(), remembered), "{bits:06X}");
+    }
+    // A word has itself and 24 others near it.
+    assert_eq!((tally.frames, tally.bad), (1 << 24, (256 - 25) << 16));
 }
 
 /// A source writes JC3 by the equations, for each count of the largest grid with each change that

@@ -1,7 +1,8 @@
-//! Arguments that are wrong: the program says so, shows how it is called, and writes nothing.
+//! Arguments that are wrong: the program says so, shows how it is called, and writes nothing. And
+//! those that are right.
 
 use crate::feed::{run, Written};
-use crate::filters::mapped;
+use crate::filters::{demapped, mapped};
 use second::Random;
 
 const NOT_DECIMAL: &str = "odu0map: the arguments are not two decimal numbers of 32 bits\n";
@@ -125,14 +126,64 @@ fn a_rate_that_is_refused() {
     assert_wrong(&["14411", "1"], "odu0map: refused, rate (number 4)\n");
 }
 
+/// Asserts that odu0demap turns these arguments back, and takes no frame.
+fn assert_not_mend(arguments: &[&str]) {
+    let said = "odu0demap: the only argument is mend\n\
+                usage: odu0demap [mend], frames on standard input, client bytes on standard output\n";
+    let written = run("odu0demap", arguments, vec![vec![0; 20_000]], None);
+    assert_eq!(written, Written { out: vec![], said: said.into() }, "{arguments:?}");
+}
+
 #[test]
-fn odu0demap_takes_none() {
-    let said = "odu0demap: it takes no argument\n\
-                usage: odu0demap, frames on standard input, client bytes on standard output\n";
-    let long = padded("", 5000);
-    let cases: [&[&str]; 5] = [&["x"], &[""], &["14407", "1"], &[&long], &["-"; 100]];
+fn odu0demap_takes_only_mend() {
+    let near = ["men", "mende", "mended", "mends", "nend", "mene", "menb", "end", "Mend", "MEND"];
+    let blank = ["", " ", "\n", " mend", "mend ", "mend\n", "\tmend", "m end", "mend mend"];
+    let other = ["x", "-", "-mend", "--mend", "mend=1", "\"mend\"", "1", "0", "off", "m\u{e9}nd"];
+    for text in near.into_iter().chain(blank).chain(other) {
+        assert_not_mend(&[text]);
+    }
+    for length in [59, 60, 61, 64, 124, 252, 4092, 5000, 100_000] {
+        assert_not_mend(&[&("mend".to_string() + &"\u{1}".repeat(length))]);
+        assert_not_mend(&[&("mend".to_string() + &padded("", length))]);
+        assert_not_mend(&[&(padded("", length) + "mend")]);
+        assert_not_mend(&[&padded("", length)]);
+    }
+    let cases: [&[&str]; 8] = [
+        &["mend", "mend"],
+        &["mend", ""],
+        &["", "mend"],
+        &["", ""],
+        &["mend", "x"],
+        &["14407", "1"],
+        &["me", "nd"],
+        &["mend"; 100],
+    ];
     for arguments in cases {
-        let written = run("odu0demap", arguments, vec![vec![0; 20_000]], None);
-        assert_eq!(written, Written { out: vec![], said: said.into() }, "{arguments:?}");
+        assert_not_mend(arguments);
+    }
+}
+
+/// No argument and `mend`: both take frames, of which only the second mends one.
+#[test]
+fn odu0demap_with_and_without_mend() {
+    let mut input = mapped(&Random::new(32).bytes(3 * 14407), (14407, 1)).out;
+    input[7621] ^= 1;
+    let cases: [(&[&str], &str, usize); 2] = [
+        (
+            &[],
+            "frame 1: BADCHECK -\nframe 2: READ 14407\n\
+             odu0demap: frames 3, BADCHECK 1, bytes 14407\n",
+            14407,
+        ),
+        (
+            &["mend"],
+            "frame 1: READ 14407 mended\nodu0demap: frames 3, BADCHECK 0, bytes 28814\n",
+            2 * 14407,
+        ),
+    ];
+    for (arguments, said, bytes) in cases {
+        let written = run("odu0demap", arguments, vec![input.clone()], None);
+        assert_eq!((written.said.as_str(), written.out.len()), (said, bytes), "{arguments:?}");
+        assert!(written == demapped(&input, arguments), "{arguments:?}");
     }
 }

@@ -82,7 +82,7 @@ fn cases() -> [Case; 3] {
         Case {
             name: "odu0demap",
             arguments: &[],
-            out: demapped(&frames).out,
+            out: demapped(&frames, &[]).out,
             input: frames,
             first: (2 * 15240, 14407),
             lines: "frame 1: READ 14407\n",
@@ -139,14 +139,18 @@ fn a_full_device() {
     }
 }
 
-/// odu0demap says nothing of a frame whose bytes it cannot write, and its tally is without it.
+/// odu0demap says nothing of a frame whose bytes it cannot write, be it harmed or mended, and its
+/// tally is without it.
 #[test]
 fn a_standing_whose_bytes_are_not_written() {
-    let [_, mut case, _] = cases();
-    case.input[15240 + 1] ^= 1;
-    let said = [case.lines, &case.failed("output", ENOSPC), case.totals[1]].concat();
-    let ended = run_onto(full_device(), case.program(), Input::StaysOpen(case.input));
-    assert_ended(ended, b"", &said);
+    for arguments in [&[][..], &["mend"]] {
+        let [_, case, _] = cases();
+        let mut case = Case { arguments, ..case };
+        case.input[15240 + 1] ^= 1;
+        let said = [case.lines, &case.failed("output", ENOSPC), case.totals[1]].concat();
+        let ended = run_onto(full_device(), case.program(), Input::StaysOpen(case.input));
+        assert_ended(ended, b"", &said);
+    }
 }
 
 #[test]

@@ -2,11 +2,13 @@
 //! sink at OPU0's size.
 
 use crate::feed::{pieces, run, Written};
-use second::{Keeper, Random, Settings, Sink, Source, Tally};
+use second::{Keeper, Random, Settings, Sink, Source, Taken, Tally};
 use std::time::Duration;
 
 const OPU0: Settings = Settings::OPU0;
 const FRAME: usize = 15240;
+/// Where JC1, JC2 and JC3 stand.
+const CONTROL: [usize; 3] = [1, 3811, 7621];
 const TYPE: u8 = 7;
 const USUAL: (u32, u32) = (18_671_875, 1296);
 
@@ -28,19 +30,22 @@ pub fn mapped(input: &[u8], (p, q): (u32, u32)) -> Written {
 }
 
 /// What odu0demap writes, by the second implementation: the client bytes, a line for each change of
-/// standing, and the tally.
-pub fn demapped(input: &[u8]) -> Written {
+/// standing and, where the argument `mend` says so, for each mended frame, and the tally.
+pub fn demapped(input: &[u8], arguments: &[&str]) -> Written {
+    let settings = Settings { mending: arguments == ["mend"], ..OPU0 };
     let (mut sink, mut tally, mut before) = (Sink::new(), Tally::default(), None);
     let (mut out, mut said) = (Vec::new(), String::new());
     let frames = input.chunks_exact(FRAME);
     let rest = frames.remainder().len();
     for (frame_number, frame) in (1..).zip(frames) {
         let mut bytes = vec![0; OPU0.hi as usize];
-        let (standing, handed) = sink.call(OPU0, frame, &mut bytes, &mut tally).unwrap();
+        let taken = sink.call(settings, frame, &mut bytes, &mut tally).unwrap();
+        let Taken { standing, handed, mended } = taken;
         out.extend(&bytes[..handed as usize]);
-        if before != Some(standing) {
+        if before != Some(standing) || mended {
             let count = standing.count().map_or("-".to_string(), |count| count.to_string());
-            said += &format!("frame {frame_number}: {} {count}\n", standing.name());
+            let mended = if mended { " mended" } else { "" };
+            said += &format!("frame {frame_number}: {} {count}{mended}\n", standing.name());
         }
         before = Some(standing);
     }
@@ -67,6 +72,22 @@ fn rate(random: &mut Random) -> (u32, u32) {
     let (least, most) = (14405 * q, 14410 * q);
     let between = random.from_to(least, most);
     (random.of(&[least, between, most]), q)
+}
+
+/// Turns over a control bit of a frame, 1 to 24 of JC1 to JC3.
+fn turn_over(frame: &mut [u8], bit: usize) {
+    frame[CONTROL[(bit - 1) / 8]] ^= 0x80 >> ((bit - 1) % 8);
+}
+
+/// Frames of which some have one control bit turned over, some two, and some three.
+fn single_errors(random: &mut Random, frames: &[u8]) -> Vec<u8> {
+    let mut all = frames.to_vec();
+    for frame in all.chunks_exact_mut(FRAME) {
+        for _ in 0..random.of(&[0, 0, 0, 1, 1, 1, 1, 1, 2, 3]) {
+            turn_over(frame, random.from_to(1, 24) as usize);
+        }
+    }
+    all
 }
 
 /// Frames with some bits turned over, some lost and some doubled.
@@ -123,10 +144,102 @@ fn demapping_what_was_harmed() {
         let mut input = harmed(&mut random, &mapped(&client, at).out);
         let rest = random.of(&[0, 1, 15239]);
         input.extend(random.bytes(rest));
-        let fed = pieces(&mut random, &input, 40_000);
-        let written = run("odu0demap", &[], fed, None);
-        assert!(written == demapped(&input), "case {case}: rate {at:?}:\n{}", written.said);
+        for arguments in [&[][..], &["mend"]] {
+            let fed = pieces(&mut random, &input, 40_000);
+            let written = run("odu0demap", arguments, fed, None);
+            assert!(
+                written == demapped(&input, arguments),
+                "case {case}: {arguments:?}, rate {at:?}:\n{}",
+                written.said
+            );
+        }
     }
+}
+
+/// The argument `mend` on frames with single wrong control bits, and the same frames without it.
+#[test]
+fn demapping_with_single_errors() {
+    let mut random = Random::new(18);
+    for case in 0..20 {
+        let at = rate(&mut random);
+        let client = random.bytes(14407 * 30);
+        let input = single_errors(&mut random, &mapped(&client, at).out);
+        let [off, on] = [&[][..], &["mend"]].map(|arguments| {
+            let written = run("odu0demap", arguments, vec![input.clone()], None);
+            assert!(
+                written == demapped(&input, arguments),
+                "case {case}: {arguments:?}, rate {at:?}:\n{}",
+                written.said
+            );
+            written
+        });
+        assert!(off.out.len() < on.out.len(), "case {case}:\n{}\n{}", off.said, on.said);
+        assert!(!off.said.contains("mended"), "case {case}:\n{}", off.said);
+        assert!(on.said.contains(" mended\n"), "case {case}:\n{}", on.said);
+    }
+}
+
+/// Each of the 24 bits, in one frame each, at the usual rate. Every mended frame has a line, also
+/// where its standing is that of the frame before.
+#[test]
+fn each_control_bit_in_turn() {
+    let client = Random::new(19).bytes(14407 * 27 + 20);
+    let mut input = mapped(&client, USUAL).out;
+    for (bit, frame) in (1..=24).zip(input.chunks_exact_mut(FRAME).skip(3)) {
+        turn_over(frame, bit);
+    }
+    let written = run("odu0demap", &["mend"], vec![input.clone()], None);
+    assert!(written == demapped(&input, &["mend"]), "{}", written.said);
+    // All but the loads of the first two frames, for want of their counts.
+    assert!(written.out == client[14407 + 14408..14407 * 27 + 8], "{}", written.said);
+    let mended: Vec<&str> =
+        written.said.lines().filter_map(|line| line.strip_suffix(" mended")).collect();
+    assert_eq!(mended.len(), 24, "{}", written.said);
+    assert_eq!(mended[..2], ["frame 4: TRACKED 14408", "frame 5: TRACKED 14407"]);
+    assert!(written.said.contains("READ 14407 mended\nframe"), "{}", written.said);
+    let tally = "odu0demap: frames 27, BADCHECK 0, bytes 360182\n";
+    assert!(written.said.ends_with(tally), "{}", written.said);
+    // Without the argument each of these frames is BADCHECK, and the first of them has the line.
+    let written = run("odu0demap", &[], vec![input.clone()], None);
+    let said = "frame 1: WAITING -\nframe 2: PAIRED 14407\nframe 3: READ 14407\n\
+                frame 4: BADCHECK -\nodu0demap: frames 27, BADCHECK 24, bytes 28814\n";
+    assert_eq!(written.said, said);
+    assert!(written == demapped(&input, &[]));
+}
+
+/// The lines of mended frames at one count, where the standing stays as it is; of such frames
+/// before there is a count; and of the frames behind them.
+#[test]
+fn lines_of_mended_frames() {
+    let client = Random::new(20).bytes(14407 * 8);
+    let frames = mapped(&client, (14407, 1)).out;
+    let demapped_with = |wrong: &[(usize, usize)], said: &str| {
+        let mut input = frames.clone();
+        for (frame_number, bit) in wrong {
+            turn_over(&mut input[(frame_number - 1) * FRAME..], *bit);
+        }
+        let written = run("odu0demap", &["mend"], vec![input.clone()], None);
+        assert_eq!(written.said, said);
+        assert!(written == demapped(&input, &["mend"]));
+    };
+    demapped_with(&[], "frame 1: READ 14407\nodu0demap: frames 8, BADCHECK 0, bytes 100849\n");
+    demapped_with(
+        &[(1, 1), (3, 9), (4, 24), (8, 17)],
+        "frame 1: READ 14407 mended\nframe 3: READ 14407 mended\nframe 4: READ 14407 mended\n\
+         frame 8: READ 14407 mended\nodu0demap: frames 8, BADCHECK 0, bytes 100849\n",
+    );
+    // Two wrong bits, then one, then a clean frame.
+    demapped_with(
+        &[(5, 1), (5, 2), (6, 16)],
+        "frame 1: READ 14407\nframe 5: BADCHECK -\nframe 6: READ 14407 mended\n\
+         odu0demap: frames 8, BADCHECK 1, bytes 86442\n",
+    );
+    let mut input = mapped(&client, USUAL).out;
+    turn_over(&mut input, 5);
+    let written = run("odu0demap", &["mend"], vec![input[..3 * FRAME].to_vec()], None);
+    let said = "frame 1: WAITING - mended\nframe 2: PAIRED 14407\nframe 3: READ 14407\n\
+                odu0demap: frames 3, BADCHECK 0, bytes 14407\n";
+    assert_eq!(written.said, said);
 }
 
 /// Through both filters: the first frame says only "one more", so a new sink hands out every load
@@ -154,7 +267,7 @@ fn slow_pieces() {
     assert!(frames == mapped(&client, (14407, 1)), "{}", frames.said);
     let fed = pieces(&mut random, &frames.out, 2000);
     let back = run("odu0demap", &[], fed, Some(Duration::from_millis(1)));
-    assert!(back == demapped(&frames.out), "{}", back.said);
+    assert!(back == demapped(&frames.out, &[]), "{}", back.said);
 }
 
 /// A rest is told exactly where the input ends within a load. The second has a byte more.
@@ -203,8 +316,11 @@ fn input_that_ends_around_a_frame() {
     ];
     for (length, rest, taken, bytes) in cases {
         let totals = format!("odu0demap: frames {taken}, BADCHECK 0, bytes {bytes}\n");
-        let written = run("odu0demap", &[], vec![frames[..length].to_vec()], None);
-        assert_eq!(written.said, lines[..taken].concat() + rest + &totals, "{length} bytes");
-        assert!(written == demapped(&frames[..length]), "{length} bytes");
+        // With `mend` it is the same where nothing is wrong.
+        for arguments in [&[][..], &["mend"]] {
+            let written = run("odu0demap", arguments, vec![frames[..length].to_vec()], None);
+            assert_eq!(written.said, lines[..taken].concat() + rest + &totals, "{length} bytes");
+            assert!(written == demapped(&frames[..length], arguments), "{length} bytes");
+        }
     }
 }

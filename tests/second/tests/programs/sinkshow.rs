@@ -1,7 +1,7 @@
 //! The program sinkshow against the second implementation's lines.
 
 use crate::feed::{pieces, run};
-use second::{Random, Settings, Sink, Tally};
+use second::{Random, Settings, Sink, Taken, Tally};
 use std::time::Duration;
 
 const SETTINGS: Settings = Settings::new(2, 0, 8);
@@ -23,7 +23,8 @@ pub fn lines(input: &[u8]) -> String {
     let frames = input.chunks_exact(16);
     let rest = frames.remainder().len();
     for (frame_number, frame) in (1..).zip(frames) {
-        let (standing, handed) = sink.call(SETTINGS, frame, &mut out, &mut tally).unwrap();
+        let taken = sink.call(SETTINGS, frame, &mut out, &mut tally).unwrap();
+        let Taken { standing, handed, .. } = taken;
         let count = standing.count().map_or("-".to_string(), |count| count.to_string());
         lines += &format!("{frame_number} {handed} {} {count}\n", standing.name());
     }
@@ -61,6 +62,23 @@ fn the_frames_of_the_paper() {
     // Byte by byte.
     let bytes = input.iter().map(|byte| vec![*byte]).collect();
     assert_eq!(shown(bytes, Some(Duration::from_millis(1))), wanted);
+}
+
+/// Mending is off: of the paper's second and third frame, the second with each of its control bits
+/// turned over is BADCHECK, and a wrong bit beside them is not seen.
+#[test]
+fn a_wrong_bit_is_not_mended() {
+    for bit in 0..128 {
+        let mut harmed = THEN;
+        harmed[bit / 8] ^= 0x80 >> (bit % 8);
+        let wanted = match bit / 8 {
+            1 | 5 | 9 => "1 0 WAITING -\n2 0 BADCHECK -\n3 0 READ 4\n",
+            _ => "1 0 WAITING -\n2 0 READ 4\n3 4 READ 4\n",
+        };
+        let input = [FIRST, harmed, THEN].concat();
+        assert_eq!(lines(&input), wanted, "bit {bit}");
+        assert_eq!(shown(vec![input], None), wanted, "bit {bit}");
+    }
 }
 
 #[test]

@@ -1,0 +1,68 @@
+-- Sources do not look at mending. Assumes nothing.
+use mathlib.Core.Path.{_≡_, refl, sym, ap, _∙_, subst}
+use mathlib.Core.Bool.{Bool, true, false, cond}
+use mathlib.Core.List.{List, [], _∷_, map}
+use Prim.Native.Nat.{ℕ, zero, suc}
+use Rattle.gmp_settings.specs.declared.Settings.{Settings}
+use Rattle.gmp_settings.specs.Settings.{withMending, outside}
+use Rattle.gmp_control.specs.Pattern.{tableOf}
+use Rattle.gmp_source.specs.declared.SourceState.{SourceState}
+use Rattle.gmp_source.specs.Source.{sourceRefusal, controlBytes, written, sourceState, sourceFrame}
+use Rattle.claim_recovery.specs.Runs.{At, Nth, SourceCall, SourceStep, sourceTakes, sourceAfter, sourceSteps, frameOf}
+use Rattle.claim_recovery.specs.Demand.{SourceRun}
+use Rattle.claim_recovery.specs.Mended.{flaggedCall, flaggedStep, SinksOwn}
+
+same-frame : (b : Bool) (x : SourceStep) → frameOf (flaggedStep b x) ≡ frameOf x
+unfolding sourceFrame sourceRefusal outside written controlBytes tableOf
+same-frame b x = refl
+
+same-after : (b : Bool) (x : SourceStep) → sourceAfter (flaggedStep b x) ≡ sourceAfter x
+unfolding sourceState sourceRefusal outside
+same-after b x = refl
+
+same-takes : (b : Bool) (x : SourceStep) → sourceTakes (flaggedStep b x) ≡ sourceTakes x
+unfolding sourceRefusal outside
+same-takes b x = refl
+
+map-cond : {A B : Type 0} (f : A → B) (t : Bool) (x : A) (l : List A) → cond t (f x ∷ map f l) (map f l) ≡ map f (cond t (x ∷ l) l)
+map-cond f true x l = refl
+map-cond f false x l = refl
+
+same-steps : (b : Bool) (z : SourceState) (calls : List SourceCall) → sourceSteps z (map (flaggedCall b) calls) ≡ map (flaggedStep b) (sourceSteps z calls)
+unfolding sourceSteps
+same-steps b z [] = refl
+same-steps b z (c ∷ cs) =
+    let x : SourceStep = record { call = c; state = z } in
+    let y : SourceStep = flaggedStep b x in
+    let steps : SourceState → List SourceStep = λ q. sourceSteps q (map (flaggedCall b) cs) in
+    ap (λ (t : Bool). cond t (y ∷ steps (sourceAfter y)) (steps (sourceAfter y))) (same-takes b x)
+    ∙ ap (λ (q : SourceState). cond (sourceTakes x) (y ∷ steps q) (steps q)) (same-after b x)
+    ∙ ap (λ (l : List SourceStep). cond (sourceTakes x) (y ∷ l) l) (same-steps b (sourceAfter x) cs)
+    ∙ map-cond (flaggedStep b) (sourceTakes x) x (sourceSteps (sourceAfter x) cs)
+
+at-map : {A B : Type 0} (f : A → B) (l : List A) (i : ℕ) (y : B) → At (map f l) i y → (x : A) × At l i x × (f x ≡ y)
+at-map f [] i y p = absurd p
+at-map f (x ∷ l) zero y p = (x, refl, p)
+at-map f (x ∷ l) (suc i) y p = at-map f l i y p
+
+pub sinks-own : SinksOwn
+sinks-own =
+    record {
+      run = λ b s source calls run.
+          record {
+            made-with = run .made-with;
+            first = run .first;
+            payload-type = run .payload-type;
+            made = run .made;
+            shared = shared b s source calls run;
+          };
+      steps = same-steps;
+      frame = same-frame;
+    }
+  where
+    shared : (b : Bool) (s : Settings) (source : SourceState) (calls : List SourceCall) → SourceRun s source calls
+        → (i : ℕ) (y : SourceStep) → Nth (sourceSteps source (map (flaggedCall b) calls)) i y → y .call .settings ≡ withMending s b
+    shared b s source calls run zero y p = absurd p
+    shared b s source calls run (suc i) y p =
+        let q = at-map (flaggedStep b) (sourceSteps source calls) i y (subst (λ (l : List SourceStep). At l i y) (same-steps b source calls) p) in
+        sym (ap (λ (x : SourceStep). x .call .settings) (q .2)) ∙ ap (λ (u : Settings). withMending u b) (run .shared (suc i) (q .0) (q .1))
