@@ -8,7 +8,7 @@ use gmp_standing::Standing;
 ghost use mathlib.Core.Path.{_≡_};
 ghost use Rattle.gmp_standing.specs.Standing.{standingMeaning};
 ghost use Rattle.gmp_sink.specs.Sink.{answerMeaning};
-ghost use Rattle.card_sink.specs.Card.{badFrames, tallyBy, CallPromise};
+ghost use Rattle.card_sink.specs.Card.{badFrames, tallyBy, CallPromise, MendedIsGood};
 
 // What a call returns, with the tally after it.
 pub struct Counted {
@@ -66,6 +66,11 @@ pub fn count_call(
         tally: count_answer(tally, answer, result.handed),
     }
 }
+
+// A mended frame is no BADCHECK frame, in its standing or in the tally.
+pub fn mended_is_good()
+    ensures { λ _. ⌜ MendedIsGood ⌝ }
+{}
 
 // The tally after an answer: a refused call leaves it.
 fn count_answer(tally: Tally, answer: SinkAnswer, handed: u32) -> Tally

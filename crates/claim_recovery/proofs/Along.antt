@@ -39,7 +39,7 @@ use Rattle.gmp_frame.proofs.Laws.{others-client}
 use Rattle.gmp_source.specs.Source.{controlBytes, written}
 use Rattle.gmp_source.proofs.Laws as source
 use Rattle.gmp_sink.specs.declared.SinkState.{SinkState}
-use Rattle.gmp_sink.specs.Sink.{newSink, handed, readingOf, standingBy, standingAfter, wordFrom, stateAfter, isMended, mendedIn}
+use Rattle.gmp_sink.specs.Sink.{newSink, handed, readingOf, standingBy, standingAfter, wordAfter, stateAfter, isMended, mendedIn}
 use Rattle.gmp_sink.proofs.Laws as sink
 use Rattle.claim_recovery.specs.Runs.{Bytes, SourceStep, SinkStep, sinkAfter, frameOf, loadOf, countOf, answerOf, mendedOf, handedOf, outOf}
 use Rattle.claim_recovery.specs.Demand.{Unharmed, wrongControlBits, AtMostWrong, equalFrame, Delivers}
@@ -241,7 +241,7 @@ module _ (s : Settings) (old : ℕ) (x : SourceStep) (y : SinkStep) (link : Link
 
   -- a reading that leads where the written word does
   as-word : (r : Reading) → readingOf s lent ≡ r → ((z : SinkState) → standingBy s z r ≡ standingBy s z (Whole (writtenWord s old (countOf x))))
-      → wordFrom r ≡ wordFrom (Whole (writtenWord s old (countOf x))) → SameWord s x y
+      → wordAfter r ≡ wordAfter (Whole (writtenWord s old (countOf x))) → SameWord s x y
   as-word r e f g =
       let c = controlBytes s old (countOf x) in
       let whole = whole-written s old (countOf x) in
@@ -253,8 +253,8 @@ module _ (s : Settings) (old : ℕ) (x : SourceStep) (y : SinkStep) (link : Link
       }
 
   itself : (r : Reading) → readingOf s lent ≡ r → (let c = controlBytes s old (countOf x) in IsOrBad (c .jc1) (c .jc2) r) → (readingOf s lent ≡ Bad) ⊎ SameWord s x y
-  itself (Whole w) e h = inr (as-word (Whole w) e (λ z. ap (λ (v : ReadWord). standingBy s z (Whole v)) h) (ap (λ (v : ReadWord). wordFrom (Whole v)) h))
-  itself (Mended w) e h = inr (as-word (Mended w) e (λ z. ap (λ (v : ReadWord). standingBy s z (Mended v)) h) (ap (λ (v : ReadWord). wordFrom (Mended v)) h))
+  itself (Whole w) e h = inr (as-word (Whole w) e (λ z. ap (λ (v : ReadWord). standingBy s z (Whole v)) h) (ap (λ (v : ReadWord). wordAfter (Whole v)) h))
+  itself (Mended w) e h = inr (as-word (Mended w) e (λ z. ap (λ (v : ReadWord). standingBy s z (Mended v)) h) (ap (λ (v : ReadWord). wordAfter (Mended v)) h))
   itself Bad e h = inl e
 
   -- A frame with at most the budget's wrong control bits is bad or leads where the written one

@@ -5,3 +5,4 @@ mod Announced
 pub mod Reading
 pub mod Laws
 mod Needed
+pub mod Named

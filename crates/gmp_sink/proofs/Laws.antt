@@ -1,13 +1,15 @@
 -- What an accepted call of the sink knows, and the cases of its definitions. Assumes nothing.
 use mathlib.Core.Path.{_≡_, refl, sym, ap, ap₂, _∙_}
-use mathlib.Core.Bool.{Bool, true, false, not, cond}
+use mathlib.Core.Bool.{Bool, true, false, true≢false, not, cond}
 use mathlib.Core.List.{List, [], _++_}
 use Prim.Native.Nat.{ℕ, _≤_}
 use native.Mathlib.Omega.{arith}
 use lib.Dec.{eqb, ltb, lit<}
 use lib.ListN.{length, drop}
-use borrow.Author.Tests.{eqb-true, ltb-false, not-false, eq-eqb, ne-eqb}
+use borrow.Author.Tests.{eqb-true, eqb-false, ltb-false, not-false, eq-eqb, ne-eqb}
+use Rattle.math.specs.Choice.{sameList}
 use Rattle.gmp_crc8.specs.declared.Reading.{Reading}
+use Rattle.gmp_crc8.specs.declared.Reading.the-variants.{Whole, Mended, Bad}
 use Rattle.gmp_settings.specs.declared.Settings.{Settings}
 use Rattle.gmp_refusal.specs.declared.Refusal.{Refusal}
 use Rattle.gmp_settings.specs.Grid.{payloadBytes, frameBytes}
@@ -20,16 +22,19 @@ use Rattle.gmp_settings.proofs.Laws.{all-passed, settings-fit, inside-window}
 use Rattle.gmp_standing.specs.declared.Count.{Count}
 use Rattle.gmp_standing.specs.declared.Count.the-variants.{Known, Unknown}
 use Rattle.gmp_standing.specs.declared.Standing.{Standing}
-use Rattle.gmp_standing.specs.Standing.{standingMeaning}
+use Rattle.gmp_standing.specs.Standing.{Finding, BADCHECK, standingMeaning}
 use Rattle.gmp_standing.specs.Known.{inWindow}
 use Rattle.gmp_control.specs.declared.Remembered.{Remembered}
+use Rattle.gmp_control.specs.Word.{wordBy}
+use Rattle.gmp_control.specs.Pattern.{tableOf}
+use Rattle.gmp_control.proofs.Named.{never-bad-check}
 use Rattle.gmp_frame.specs.declared.Control.{Control}
 use Rattle.gmp_frame.specs.Frame.{controlOf, clientBytes, clientTaken}
 use Rattle.gmp_frame.proofs.Laws.{length-client, taken-fits}
 use Rattle.gmp_sink.specs.declared.SinkState.{SinkState}
 use Rattle.gmp_sink.specs.declared.SinkAnswer.the-variants.{Done, Refused}
 use Rattle.gmp_sink.specs.declared.SinkResult.{SinkResult}
-use Rattle.gmp_sink.specs.Sink.{sinkReasons, sinkRefusal, handed, readingOf, standingBy, standingAfter, wordFrom, stateAfter, isMended, mendedIn, answerMeaning, sinkAnswer, sinkState, sinkMended, sinkHanded, sinkOut, SinkPromise, HandsOut}
+use Rattle.gmp_sink.specs.Sink.{sinkReasons, sinkRefusal, handed, readingOf, standingBy, standingAfter, wordAfter, stateAfter, isMended, mendedIn, answerMeaning, sinkAnswer, sinkState, sinkMended, sinkHanded, sinkOut, SinkPromise, HandsOut}
 
 -- an accepted call
 pub record Accepted (s : Settings) (frameLength outLength : ℕ) : Type 0 where
@@ -116,9 +121,9 @@ module _ (s : Settings) (z : SinkState) (c : Control) (r : Reading) (e : reading
   unfolding standingAfter
   standing-read = ap (standingBy s z) e
 
-  pub word-read : stateAfter s z c .word ≡ wordFrom r
+  pub word-read : stateAfter s z c .word ≡ wordAfter r
   unfolding stateAfter
-  word-read = ap wordFrom e
+  word-read = ap wordAfter e
 
   pub mended-read : mendedIn s c ≡ isMended r
   unfolding mendedIn
@@ -166,3 +171,26 @@ module _ {s : Settings} {z : SinkState} {frame out : List ℕ} (none : sinkRefus
   done-says x e =
       let o : accepted (standingMeaning x) ≡ accepted (standingAfter s z (controlOf (s .k) frame)) = sym (ap answerMeaning e) ∙ answered in
       cc
+
+-- A call that mended a bit was accepted, and has another standing than BADCHECK.
+module _ (s : Settings) (z : SinkState) where
+  other-by : (r : Reading) → isMended r ≡ true → sameList (standingBy s z r .name) BADCHECK ≡ false
+  other-by (Whole w) e = absurd (true≢false (sym e))
+  other-by (Mended w) e = never-bad-check (tableOf s) s (z .count) (z .word) (wordBy (w .jc1) (w .jc2))
+  other-by Bad e = absurd (true≢false (sym e))
+
+  module _ (frame out : List ℕ) (m : sinkMended s frame out ≡ true) where
+    mended-by : (b : Bool) → eqb (sinkRefusal s (length frame) (length out)) 0 ≡ b → sinkRefusal s (length frame) (length out) ≡ 0
+    mended-by true e = eqb-true _ 0 e
+    mended-by false e = absurd (true≢false (sym m ∙ mended-refused s z frame out (eqb-false _ 0 e)))
+
+    pub mended-answers : (f : Finding) × (sinkAnswer s z frame out ≡ accepted f) × (sameList (f .name) BADCHECK ≡ false)
+    mended-answers =
+        let none = mended-by _ refl in
+        let c = controlOf (s .k) frame in
+        let r = readingOf s c in (
+          standingAfter s z c,
+          answer-accepted s z frame out none,
+          ap (λ (f : Finding). sameList (f .name) BADCHECK) (standing-read s z c r refl)
+              ∙ other-by r (sym (mended-read s z c r refl) ∙ sym (mended-accepted s z frame out none) ∙ m),
+        )

@@ -72,14 +72,14 @@ unfoldable pub standingAfter : Settings → SinkState → Control → Finding
 standingAfter s z c = standingBy s z (readingOf s c)
 
 -- the word that is remembered: that which was read, mended or not, where II ≠ DI
-abbrev pub wordFrom : Reading → Remembered
-wordFrom (Whole w) = usable (Word (wordBy (w .jc1) (w .jc2)))
-wordFrom (Mended w) = usable (Word (wordBy (w .jc1) (w .jc2)))
-wordFrom Bad = Nothing
+abbrev pub wordAfter : Reading → Remembered
+wordAfter (Whole w) = usable (Word (wordBy (w .jc1) (w .jc2)))
+wordAfter (Mended w) = usable (Word (wordBy (w .jc1) (w .jc2)))
+wordAfter Bad = Nothing
 
 -- the state after these control bytes: what was found, and the word
 unfoldable pub stateAfter : Settings → SinkState → Control → SinkState
-stateAfter s z c = record { count = standingAfter s z c .count; word = wordFrom (readingOf s c) }
+stateAfter s z c = record { count = standingAfter s z c .count; word = wordAfter (readingOf s c) }
 
 -- "whether it was mended"
 abbrev pub isMended : Reading → Bool

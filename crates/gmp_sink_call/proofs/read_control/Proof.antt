@@ -12,7 +12,7 @@ use Rattle.gmp_control.specs.Follow.{usable, found}
 use Rattle.gmp_frame.specs.declared.Control.{Control}
 use Rattle.gmp_sink.specs.declared.SinkState.{SinkState}
 use Rattle.gmp_sink.specs.declared.Heard.{Heard}
-use Rattle.gmp_sink.specs.Sink.{readingOf, standingBy, wordFrom, isMended, HearsWord, ReadsControl}
+use Rattle.gmp_sink.specs.Sink.{readingOf, standingBy, wordAfter, isMended, HearsWord, ReadsControl}
 use Rattle.gmp_sink.proofs.Laws.{standing-read, word-read, mended-read, count-after}
 use Rattle.gmp_sink_call.proofs.read_control.Statement.{statement}
 use Rattle.gmp_sink_call.proofs.read_control.Tie as tie
@@ -37,7 +37,7 @@ enum-told c = search needs
 
 -- a word that was read, whole or mended, and followed
 module _ (s : Settings) (z : SinkState) (c : Control) (r : Reading) (w : ReadWord) (h : Heard) (read : readingOf s c ≡ r)
-    (leads : standingBy s z r ≡ found s (z .count) (z .word) (wordBy (w .jc1) (w .jc2))) (keeps : wordFrom r ≡ usable (Word (wordBy (w .jc1) (w .jc2))))
+    (leads : standingBy s z r ≡ found s (z .count) (z .word) (wordBy (w .jc1) (w .jc2))) (keeps : wordAfter r ≡ usable (Word (wordBy (w .jc1) (w .jc2))))
     (hears : HearsWord s z w (isMended r) h) where
   heard : ReadsControl s z c h
   heard =
@@ -52,19 +52,20 @@ module _ (s : Settings) (z : SinkState) (c : Control) (r : Reading) (w : ReadWor
 returns : tie.Need-returns
 returns c =
     let g = c .before .before .before .before .before .args in
-    heard (g .settings) (g .state) (g .control) (Whole _) _ _ (sym (c .before .before .before .before .read .ensures) ∙ c .before .before .reading .given .1)
-    refl refl (c .hear-word .ensures)
+    let read : c .before .before .before .before .read .result ≡ readingOf (g .settings) (g .control) = c .before .before .before .before .read .ensures in
+    heard (g .settings) (g .state) (g .control) (Whole _) _ _ (sym read ∙ c .before .before .reading .given .1) refl refl (c .hear-word .ensures)
 
 returns-2 : tie.Need-returns-2
 returns-2 c =
     let g = c .before .before .before .before .before .args in
-    heard (g .settings) (g .state) (g .control) (Mended _) _ _ (sym (c .before .before .before .before .read .ensures) ∙ c .before .before .reading2 .given .1)
-    refl refl (c .hear-word2 .ensures)
+    let read : c .before .before .before .before .read .result ≡ readingOf (g .settings) (g .control) = c .before .before .before .before .read .ensures in
+    heard (g .settings) (g .state) (g .control) (Mended _) _ _ (sym read ∙ c .before .before .reading2 .given .1) refl refl (c .hear-word2 .ensures)
 
 returns-3 : tie.Need-returns-3
 returns-3 c =
     let g = c .before .before .before .args in
-    let e : readingOf (g .settings) (g .control) ≡ Bad = sym (c .before .before .read .ensures) ∙ c .enum-told .given .1 in
+    let read : c .before .before .read .result ≡ readingOf (g .settings) (g .control) = c .before .before .read .ensures in
+    let e = sym read ∙ c .enum-told .given .1 in
     let found = standing-read (g .settings) (g .state) (g .control) Bad e in
     record {
       standing = sym found;

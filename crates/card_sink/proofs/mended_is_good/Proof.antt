@@ -1,0 +1,33 @@
+-- `card_sink::mended_is_good` meets its contract. Assumes nothing.
+use mathlib.Core.Path.{_≡_, ap, _∙_}
+use mathlib.Core.Bool.{Bool, true, cond}
+use mathlib.Core.List.{List}
+use Prim.Native.Nat.{ℕ}
+use lib.ListN.{length}
+use Rattle.refusals.specs.Table.{Answer, accepted}
+use Rattle.gmp_settings.specs.declared.Settings.{Settings}
+use Rattle.gmp_standing.specs.Standing.{Finding}
+use Rattle.card_tally.specs.declared.Tally.{Tally}
+use Rattle.card_tally.specs.Tally.{added}
+use Rattle.gmp_sink.specs.declared.SinkState.{SinkState}
+use Rattle.gmp_sink.specs.Sink.{sinkAnswer, sinkMended, sinkHanded}
+use Rattle.gmp_sink.proofs.Laws.{mended-answers}
+use Rattle.card_sink.specs.Card.{badFrames, tallyBy, tallyAfter}
+use Rattle.card_sink.proofs.mended_is_good.Statement.{statement}
+use Rattle.card_sink.proofs.mended_is_good.Tie as tie
+
+module _ (s : Settings) (z : SinkState) (frame out : List ℕ) (m : sinkMended s frame out ≡ true) where
+  answers : (f : Finding) × (sinkAnswer s z frame out ≡ accepted f) × (badFrames f ≡ 0)
+  answers = let a = mended-answers s z frame out m in (a .0, a .1, ap (λ (b : Bool). cond b 1 0) (a .2))
+
+  tallied : (y : Tally) → tallyAfter s z frame out y ≡ added y 1 0 (length (sinkHanded s z frame out))
+  unfolding tallyAfter
+  tallied y =
+      let n : ℕ = length (sinkHanded s z frame out) in
+      ap (λ (a : Answer Finding). tallyBy a n y) (answers .1) ∙ ap (λ (bad : ℕ). added y 1 bad n) (answers .2)
+
+returns : tie.Need-returns
+returns c = record { standing = answers; tally = λ s z frame out y m. tallied s z frame out m y }
+
+pub mended-is-good-spec : {M : Type 1} → statement M
+mended-is-good-spec = tie.close (tie.spec returns)
