@@ -1,7 +1,6 @@
 -- The settings as the plain numbers that C and Rust give. What may be missing is a flag, 0 for the
 -- standard's patterns, beside four numbers; mending is a flag, 0 for off. Assumes nothing.
 use mathlib.Core.Bool.{not, cond}
-use Prim.Native.Nat.{ℕ}
 use lib.Dec.{eqb}
 use Rattle.gmp_settings.specs.declared.Settings.{Settings}
 use Rattle.gmp_settings.specs.declared.FourPatterns.{FourPatterns}

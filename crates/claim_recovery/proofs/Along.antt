@@ -19,7 +19,7 @@ use Rattle.gmp_crc8.proofs.Laws.{passed-whole, reads-as-itself, mends-one-bit}
 use Rattle.gmp_settings.specs.declared.Settings.{Settings}
 use Rattle.refusals.specs.Table.{accepted}
 use Rattle.gmp_settings.specs.Grid.{frameBytes}
-use Rattle.gmp_settings.specs.Settings.{Fit, outside}
+use Rattle.gmp_settings.specs.Settings.{outside}
 use Rattle.gmp_standing.specs.declared.Count.{Count}
 use Rattle.gmp_standing.specs.declared.Count.the-variants.{Known, Unknown}
 use Rattle.gmp_standing.specs.Standing.{Finding, finding, READ, TRACKED}
@@ -41,7 +41,7 @@ use Rattle.gmp_source.proofs.Laws as source
 use Rattle.gmp_sink.specs.declared.SinkState.{SinkState}
 use Rattle.gmp_sink.specs.Sink.{newSink, handed, readingOf, standingBy, standingAfter, wordAfter, stateAfter, isMended, mendedIn}
 use Rattle.gmp_sink.proofs.Laws as sink
-use Rattle.claim_recovery.specs.Runs.{Bytes, SourceStep, SinkStep, sinkAfter, frameOf, loadOf, countOf, answerOf, mendedOf, handedOf, outOf}
+use Rattle.claim_recovery.specs.Runs.{Bytes, SourceStep, SinkStep, sinkAfter, frameOf, loadOf, countOf, mendedOf, handedOf}
 use Rattle.claim_recovery.specs.Demand.{Unharmed, wrongControlBits, AtMostWrong, equalFrame, Delivers}
 use Rattle.claim_recovery.specs.Mended.{OneWrong}
 use Rattle.claim_recovery.proofs.Lists.{Each}

@@ -17,7 +17,7 @@ use Rattle.gmp_sink.specs.declared.SinkState.{SinkState}
 use Rattle.gmp_sink.specs.Sink.{newSink}
 use Rattle.claim_recovery.specs.Runs.{At, Nth, SourceCall, SinkCall, SourceStep, SinkStep, sourceSteps, sinkSteps, sinkEnd, countOf}
 use Rattle.claim_recovery.specs.Demand.{SourceRun, Reads, Unharmed, AtMostWrong, Delivers, Recovery, NoFalseCount, Demand3}
-use Rattle.claim_recovery.specs.Mended.{OneWrong, Keeps, KeepsEach, HoldsCount, CostsNothing}
+use Rattle.claim_recovery.specs.Mended.{OneWrong, KeepsEach, HoldsCount, CostsNothing}
 use Rattle.claim_recovery.proofs.Lists.{Each, to-each, each-at, at-drop, drop-at, nth-at, at-nth, nth-same}
 use Rattle.claim_recovery.proofs.Threads.{Chain, chain, chain-drop, Thread, thread}
 use Rattle.claim_recovery.proofs.Along.{countAfter, AsWritten, unharmed, Went, in-step, recovers, never-false, Good, all-good}

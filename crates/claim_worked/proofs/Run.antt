@@ -17,9 +17,8 @@ use Rattle.gmp_settings.specs.declared.Settings.{Settings}
 use Rattle.refusals.specs.Table.{Answer, accepted, refused}
 use Rattle.gmp_settings.specs.Settings.{withMending, outside}
 use Rattle.gmp_standing.specs.declared.Count.the-variants.{Known, Unknown}
-use Rattle.gmp_standing.specs.Standing.{Finding, finding, READ, TRACKED, PAIRED, BADCHECK, WAITING}
+use Rattle.gmp_standing.specs.Standing.{Finding, finding, READ, TRACKED, PAIRED}
 use Rattle.gmp_standing.specs.Known.{inWindow}
-use Rattle.gmp_control.specs.declared.Remembered.the-variants.{Word, Nothing}
 use Rattle.gmp_control.specs.Word.{equalIndicators}
 use Rattle.gmp_control.specs.Pattern.{tableOf}
 use Rattle.gmp_control.specs.Announce.{announced}
@@ -28,7 +27,6 @@ use Rattle.gmp_stuffing.specs.Places.{places, placed, tabulate, chosen}
 use Rattle.gmp_frame.specs.Frame.{row, frame, columns, payload, clientBytes, controlOf}
 use Rattle.gmp_source.specs.declared.SourceState.{SourceState}
 use Rattle.gmp_source.specs.Source.{startRefusal, newSource, sourceRefusal, controlBytes, written, sourceState, sourceFrame}
-use Rattle.gmp_sink.specs.declared.SinkState.{SinkState}
 use Rattle.gmp_sink.specs.Sink.{newSink, sinkRefusal, handed, standingAfter, stateAfter, sinkAnswer, sinkState, sinkHanded, sinkOut}
 use Rattle.claim_recovery.specs.Runs.{Nth, SourceCall, SinkCall, SourceStep, SinkStep, sourceSteps, sinkSteps, sinkEnd, countOf, answerOf}
 use Rattle.claim_recovery.specs.Demand.{SourceRun, Reads, Unharmed, AtMostWrong, equalFrame, NoFalseCount}

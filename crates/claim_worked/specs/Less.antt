@@ -8,7 +8,6 @@ use Rattle.gmp_crc8.specs.Claims.{budget}
 use Rattle.gmp_settings.specs.declared.Settings.{Settings}
 use Rattle.gmp_standing.specs.declared.Count.the-variants.{Known}
 use Rattle.gmp_source.specs.declared.SourceState.{SourceState}
-use Rattle.gmp_sink.specs.declared.SinkState.{SinkState}
 use Rattle.gmp_sink.specs.Sink.{newSink}
 use Rattle.claim_recovery.specs.Runs.{Nth, SourceCall, SinkCall, SourceStep, SinkStep, sourceSteps, sinkSteps, sinkEnd, countOf}
 use Rattle.claim_recovery.specs.Demand.{SourceRun, Reads, Unharmed, Delivers, NoFalseCount}

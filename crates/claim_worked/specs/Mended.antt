@@ -12,7 +12,6 @@ use Rattle.gmp_standing.specs.declared.Count.the-variants.{Known}
 use Rattle.gmp_standing.specs.Standing.{READ, TRACKED, PAIRED, BADCHECK, WAITING}
 use Rattle.gmp_control.specs.declared.Remembered.the-variants.{Word}
 use Rattle.gmp_control.specs.Word.{wordBy}
-use Rattle.gmp_sink.specs.declared.SinkState.{SinkState}
 use Rattle.gmp_sink.specs.Sink.{newSink}
 use Rattle.claim_recovery.specs.Runs.{SourceCall, SinkCall, SinkStep, sourceSteps, sinkSteps, sinkEnd, mendedOf}
 use Rattle.claim_recovery.specs.Demand.{SourceRun, Reads, AtMostWrong}

@@ -1,6 +1,6 @@
 -- What the crates above cite of the check; none of it speaks of the division. Assumes nothing.
 use mathlib.Core.Path.{_≡_, refl, sym, ap, _∙_, subst, subst⁻¹}
-use mathlib.Core.Bool.{Bool, true, false, cond, xor}
+use mathlib.Core.Bool.{Bool, true, false, xor}
 use mathlib.Core.List.{List, [], _∷_, _++_}
 use Prim.Native.Nat.{ℕ, _+_, _≤_, _<_}
 use native.Mathlib.Omega.{arith}
@@ -12,7 +12,7 @@ use Rattle.gmp_crc8.specs.declared.ReadWord.{ReadWord}
 use Rattle.gmp_crc8.specs.declared.Reading.{Reading}
 use Rattle.gmp_crc8.specs.declared.Reading.the-variants.{Whole, Mended, Bad}
 use Rattle.gmp_crc8.specs.Check.{remainder, passes, syndrome, word, wrongBits}
-use Rattle.gmp_crc8.specs.Reading.{readWord, bitIn, oneBit, flipped, mended, readAs}
+use Rattle.gmp_crc8.specs.Reading.{readWord, bitIn, mended, readAs}
 use Rattle.gmp_crc8.specs.Claims.{budget, Bytes, IsOrBad, ReadsAsItself, MendsOneBit, BitsToldApart}
 use Rattle.gmp_crc8.proofs.Linear.{divide-lt}
 use Rattle.gmp_crc8.proofs.Distance.{Same, most, passed-none, distance}

@@ -1,24 +1,22 @@
 -- Mending: what flipping one of the 24 bits does to the remainder and to the distance, and that the
 -- remainder of one wrong bit is in the table. Assumes nothing.
-use mathlib.Core.Path.{_≡_, refl, sym, ap, ap₂, _∙_, subst, subst⁻¹}
-use mathlib.Core.Logic.{_⊎_, inl, inr}
-use mathlib.Core.Bool.{Bool, true, false, not, cond, _&&_, _||_, xor}
+use mathlib.Core.Path.{_≡_, refl, sym, ap, ap₂, _∙_, subst}
+use mathlib.Core.Bool.{Bool, true, false, not, cond, _||_, xor}
 use mathlib.Core.List.{List, [], _∷_, _++_}
 use Prim.Native.Nat.{ℕ, zero, suc, _+_, _*_, _-_, _/_, _%_, _^_, _≤_, _<_}
 use native.Mathlib.Omega.{arith}
-use lib.Bits.{bitXor, xor-self, xor-lt, xor-zero-r}
+use lib.Bits.{bitXor, xor-self, xor-lt}
 use lib.Dec.{T, eqb, ltb, eqb→eq, ltb→lt, lit<, lit≤}
 use lib.ListN.{length}
 use borrow.Author.Tests.{eq-eqb, eqb-true, eqb-false, lt-ltb, ltb-true}
 use Rattle.math.specs.Xor.{xor-medial, xor-zero-eq}
-use Rattle.math.specs.Finite.{below, at-below, agree-below, both-left, both-right}
+use Rattle.math.specs.Finite.{below, at-below, agree-below}
 use Rattle.math.specs.Bits.{digit, bits, differing}
 use Rattle.gmp_crc8.specs.declared.ReadWord.{ReadWord}
-use Rattle.gmp_crc8.specs.declared.Reading.{Reading}
 use Rattle.gmp_crc8.specs.declared.Reading.the-variants.{Whole, Mended, Bad}
 use Rattle.gmp_crc8.specs.Division.{reduce, divide}
 use Rattle.gmp_crc8.specs.Check.{remainder, passes, syndrome, word, wrongBits}
-use Rattle.gmp_crc8.specs.Reading.{readWord, bitIn, oneBit, flipped, firstWith, wrongBit, mended}
+use Rattle.gmp_crc8.specs.Reading.{bitIn, oneBit, flipped, firstWith, wrongBit, mended}
 use Rattle.gmp_crc8.specs.Claims.{Bytes}
 use Rattle.gmp_crc8.proofs.Linear.{step-xor, step-lt, divide-lt, times-linear, remainder-bytes}
 use Rattle.gmp_crc8.proofs.Distance.{Same, divided}
@@ -66,7 +64,7 @@ differing-append [] (y ∷ ys) us vs s = absurd s
 differing-append (x ∷ xs) [] us vs s = absurd s
 differing-append (x ∷ xs) (y ∷ ys) us vs s = let later = differing-append xs ys us vs s in omega arith
 
-pub wrong-by-bytes : (a b c x y z : ℕ) → wrongBits a b c x y z ≡ differing (bits a) (bits x) + (differing (bits b) (bits y) + differing (bits c) (bits z))
+wrong-by-bytes : (a b c x y z : ℕ) → wrongBits a b c x y z ≡ differing (bits a) (bits x) + (differing (bits b) (bits y) + differing (bits c) (bits z))
 unfolding bits word
 wrong-by-bytes a b c x y z =
     differing-append (bits a) (bits x) (bits b ++ bits c) (bits y ++ bits z) tt
@@ -208,11 +206,6 @@ mended-not-whole x y r w e = by (ltb (wrongBit r) 24) e
 steps : ℕ → ℕ → ℕ
 steps zero d = d
 steps (suc n) d = steps n (reduce (d * 2 + 0))
-
-self-xor : (b : Bool) → xor b b ≡ false
-unfolding xor
-self-xor true = refl
-self-xor false = refl
 
 agree-after : (xs ys : List Bool) (r s : ℕ) → Same xs ys → differing xs ys ≡ 0 → r < 256 → s < 256 → bitXor (divide r xs) (divide s ys) ≡ steps (length xs) (bitXor r s)
 unfolding divide differing steps xor

@@ -6,7 +6,7 @@ ghost use mathlib.Core.Bool.{cond};
 ghost use Prim.Native.Nat.{_<_};
 ghost use Rattle.math.specs.Bits.{bits};
 ghost use Rattle.gmp_crc8.specs.Division.{divide};
-ghost use Rattle.gmp_crc8.specs.Check.{remainder, passes, syndrome};
+ghost use Rattle.gmp_crc8.specs.Check.{remainder, passes};
 ghost use Rattle.gmp_crc8.specs.Reading.{bitIn, oneBit, flipped, wrongBit, mended, readAs};
 ghost use Rattle.gmp_crc8.specs.Claims.{ReadsAsItself, MendsOneBit, BitsToldApart};
 

@@ -1,6 +1,5 @@
 -- The settings: a grid K and a window lo to hi (01, "Settings and the frame"), the inversion
 -- patterns (02, P11), and mending (02, P1). Assumes nothing.
-use mathlib.Core.Path.{_≡_}
 use mathlib.Core.Bool.{Bool, false, _||_}
 use mathlib.Core.List.{List, [], _∷_}
 use Prim.Native.Nat.{ℕ, _<_, _≤_}

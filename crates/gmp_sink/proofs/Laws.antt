@@ -15,7 +15,7 @@ use Rattle.gmp_refusal.specs.declared.Refusal.{Refusal}
 use Rattle.gmp_settings.specs.Grid.{payloadBytes, frameBytes}
 use Rattle.refusals.specs.Table.{accepted, refused}
 use Rattle.gmp_refusal.specs.Refusal.{refusalNumber}
-use Rattle.gmp_settings.specs.Settings.{settingsReasons, Fit, outside}
+use Rattle.gmp_settings.specs.Settings.{Fit, outside}
 use Rattle.gmp_settings.specs.Patterns.{badPatterns}
 use Rattle.refusals.proofs.Laws.{none-applies}
 use Rattle.gmp_settings.proofs.Laws.{all-passed, settings-fit, inside-window}

@@ -1,15 +1,8 @@
 -- `gmp_sink_call::take_accepted` meets its contract: the parts, put together. Assumes nothing.
-use mathlib.Core.Path.{_≡_, _∙_, sym, ap}
-use mathlib.Core.List.{List, _++_}
-use Prim.Native.Nat.{ℕ}
-use lib.ListN.{length, drop}
+use mathlib.Core.Path.{_∙_, sym, ap}
+use lib.ListN.{length}
 use borrow.Author.Needs.{needs}
 use Rattle.refusals.specs.Table.{accepted}
-use Rattle.gmp_standing.specs.declared.Count.{Count}
-use Rattle.gmp_standing.specs.Standing.{Finding}
-use Rattle.gmp_control.specs.declared.Remembered.{Remembered}
-use Rattle.gmp_frame.specs.declared.Control.{Control}
-use Rattle.gmp_frame.specs.Frame.{controlOf}
 use Rattle.gmp_sink.specs.Sink.{stateAfter, standingAfter, mendedIn}
 use Rattle.gmp_sink.proofs.Laws.{answer-accepted, state-accepted, mended-accepted, handed-accepted, out-accepted, state-of-parts}
 use Rattle.gmp_sink_call.proofs.take_accepted.Statement.{statement}
