@@ -42,6 +42,14 @@ pub failed-on : (x y z : ℕ) → passes x y z ≡ false → readAs true x y z �
 unfolding readAs
 failed-on x y z e = rw e
 
+-- so with mending off a word goes by the check alone
+pub off-by-check : (P : Reading → Type 0) (x y z : ℕ) → (passes x y z ≡ true → P (Whole (readWord x y))) → (passes x y z ≡ false → P Bad) → P (readAs false x y z)
+off-by-check P x y z whole bad = by (passes x y z) refl
+  where
+    by : (t : Bool) → passes x y z ≡ t → P (readAs false x y z)
+    by true e = subst⁻¹ P (passed-whole false x y z e) (whole e)
+    by false e = subst⁻¹ P (failed-off x y z e) (bad e)
+
 -- the differences of two words are at most those on the way over a third
 xor-triangle : (x y z : Bool) → digit (xor x z) ≤ digit (xor x y) + digit (xor y z)
 unfolding xor

@@ -1,5 +1,5 @@
 -- What an accepted call of the sink knows, and the cases of its definitions. Assumes nothing.
-use mathlib.Core.Path.{_≡_, refl, sym, ap, ap₂, _∙_}
+use mathlib.Core.Path.{_≡_, refl, sym, ap, ap₂, _∙_, subst⁻¹}
 use mathlib.Core.Bool.{Bool, true, false, true≢false, not, cond}
 use mathlib.Core.List.{List, [], _++_}
 use Prim.Native.Nat.{ℕ, _≤_}
@@ -10,6 +10,9 @@ use borrow.Author.Tests.{eqb-true, eqb-false, ltb-false, not-false, eq-eqb, ne-e
 use Rattle.math.specs.Choice.{sameList}
 use Rattle.gmp_crc8.specs.declared.Reading.{Reading}
 use Rattle.gmp_crc8.specs.declared.Reading.the-variants.{Whole, Mended, Bad}
+use Rattle.gmp_crc8.specs.Check.{passes}
+use Rattle.gmp_crc8.specs.Reading.{readWord, readAs}
+use Rattle.gmp_crc8.proofs.Laws.{off-by-check}
 use Rattle.gmp_settings.specs.declared.Settings.{Settings}
 use Rattle.gmp_refusal.specs.declared.Refusal.{Refusal}
 use Rattle.gmp_settings.specs.Grid.{payloadBytes, frameBytes}
@@ -22,10 +25,12 @@ use Rattle.gmp_settings.proofs.Laws.{all-passed, settings-fit, inside-window}
 use Rattle.gmp_standing.specs.declared.Count.{Count}
 use Rattle.gmp_standing.specs.declared.Count.the-variants.{Known, Unknown}
 use Rattle.gmp_standing.specs.declared.Standing.{Standing}
-use Rattle.gmp_standing.specs.Standing.{Finding, BADCHECK, standingMeaning}
+use Rattle.gmp_standing.specs.Standing.{Finding, finding, BADCHECK, standingMeaning}
 use Rattle.gmp_standing.specs.Known.{inWindow}
 use Rattle.gmp_control.specs.declared.Remembered.{Remembered}
+use Rattle.gmp_control.specs.declared.Remembered.the-variants.{Word, Nothing}
 use Rattle.gmp_control.specs.Word.{wordBy}
+use Rattle.gmp_control.specs.Follow.{usable, found}
 use Rattle.gmp_control.specs.Pattern.{tableOf}
 use Rattle.gmp_control.proofs.Named.{never-bad-check}
 use Rattle.gmp_frame.specs.declared.Control.{Control}
@@ -34,7 +39,7 @@ use Rattle.gmp_frame.proofs.Laws.{length-client, taken-fits}
 use Rattle.gmp_sink.specs.declared.SinkState.{SinkState}
 use Rattle.gmp_sink.specs.declared.SinkAnswer.the-variants.{Done, Refused}
 use Rattle.gmp_sink.specs.declared.SinkResult.{SinkResult}
-use Rattle.gmp_sink.specs.Sink.{sinkReasons, sinkRefusal, handed, readingOf, standingBy, standingAfter, wordAfter, stateAfter, isMended, mendedIn, answerMeaning, sinkAnswer, sinkState, sinkMended, sinkHanded, sinkOut, SinkPromise, HandsOut}
+use Rattle.gmp_sink.specs.Sink.{newSink, sinkReasons, sinkRefusal, handed, readingOf, standingBy, standingAfter, wordAfter, stateAfter, isMended, mendedIn, answerMeaning, sinkAnswer, sinkState, sinkMended, sinkHanded, sinkOut, SinkPromise, HandsOut, OffAsBefore}
 
 -- an accepted call
 pub record Accepted (s : Settings) (frameLength outLength : ℕ) : Type 0 where
@@ -194,3 +199,21 @@ module _ (s : Settings) (z : SinkState) where
           ap (λ (f : Finding). sameList (f .name) BADCHECK) (standing-read s z c r refl)
               ∙ other-by r (sym (mended-read s z c r refl) ∙ sym (mended-accepted s z frame out none) ∙ m),
         )
+
+-- With mending off a reading goes by the check alone.
+off-reading : (P : Reading → Type 0) (s : Settings) (c : Control) → s .mending ≡ false → (passes (c .jc1) (c .jc2) (c .jc3) ≡ true → P (Whole (readWord (c .jc1) (c .jc2))))
+    → (passes (c .jc1) (c .jc2) (c .jc3) ≡ false → P Bad) → P (readingOf s c)
+off-reading P s c off whole bad =
+    subst⁻¹ (λ (b : Bool). P (readAs b (c .jc1) (c .jc2) (c .jc3))) off (off-by-check P (c .jc1) (c .jc2) (c .jc3) whole bad)
+
+pub off-as-before : OffAsBefore
+off-as-before =
+    record {
+      standing = λ s z c off. standing-read s z c (readingOf s c) refl
+          ∙ off-reading (λ (r : Reading). standingBy s z r ≡ cond (passes (c .jc1) (c .jc2) (c .jc3)) (found s (z .count) (z .word) (wordBy (c .jc1) (c .jc2))) (finding BADCHECK Unknown))
+          s c off (λ e. rw e) (λ e. rw e);
+      word = λ s z c off. word-read s z c (readingOf s c) refl
+          ∙ off-reading (λ (r : Reading). wordAfter r ≡ cond (passes (c .jc1) (c .jc2) (c .jc3)) (usable (Word (wordBy (c .jc1) (c .jc2)))) Nothing)
+          s c off (λ e. rw e) (λ e. rw e);
+      none-mended = λ s c off. mended-read s newSink c (readingOf s c) refl ∙ off-reading (λ (r : Reading). isMended r ≡ false) s c off (λ e. refl) (λ e. refl);
+    }

@@ -9,6 +9,7 @@ use lib.ListN.{length, drop}
 use Rattle.gmp_crc8.specs.declared.ReadWord.{ReadWord}
 use Rattle.gmp_crc8.specs.declared.Reading.{Reading}
 use Rattle.gmp_crc8.specs.declared.Reading.the-variants.{Whole, Mended, Bad}
+use Rattle.gmp_crc8.specs.Check.{passes}
 use Rattle.gmp_crc8.specs.Reading.{readAs}
 use Rattle.gmp_settings.specs.declared.Settings.{Settings}
 use Rattle.gmp_settings.specs.Grid.{frameBytes}
@@ -89,6 +90,15 @@ isMended Bad = false
 
 unfoldable pub mendedIn : Settings → Control → Bool
 mendedIn s c = isMended (readingOf s c)
+
+-- With mending off all is as 01 says: the standing, the word that is remembered, and no frame is
+-- mended.
+pub record OffAsBefore : Type 0 where
+  pub standing : (s : Settings) (z : SinkState) (c : Control) → s .mending ≡ false
+      → standingAfter s z c ≡ cond (passes (c .jc1) (c .jc2) (c .jc3)) (found s (z .count) (z .word) (wordBy (c .jc1) (c .jc2))) (finding BADCHECK Unknown)
+  pub word : (s : Settings) (z : SinkState) (c : Control) → s .mending ≡ false
+      → stateAfter s z c .word ≡ cond (passes (c .jc1) (c .jc2) (c .jc3)) (usable (Word (wordBy (c .jc1) (c .jc2)))) Nothing
+  pub none-mended : (s : Settings) (c : Control) → s .mending ≡ false → mendedIn s c ≡ false
 
 -- the paper's number and values for each case of the answer
 abbrev pub answerMeaning : SinkAnswer → Answer Finding

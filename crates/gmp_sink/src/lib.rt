@@ -6,7 +6,7 @@ use gmp_refusal::Refusal;
 use gmp_standing::Count;
 use gmp_standing::Standing;
 ghost use mathlib.Core.Path.{_≡_};
-ghost use Rattle.gmp_sink.specs.Sink.{newSink};
+ghost use Rattle.gmp_sink.specs.Sink.{newSink, OffAsBefore};
 
 // A known count or none, and a remembered word or none.
 pub struct SinkState {
@@ -44,3 +44,8 @@ pub fn new_sink() -> SinkState
         word: Remembered::Nothing,
     }
 }
+
+// With mending off the control bytes lead where they led before there was mending.
+pub fn off_as_before()
+    ensures { λ _. ⌜ OffAsBefore ⌝ }
+{}
