@@ -16,8 +16,8 @@ remainder jc1 jc2 = divide 0 (bits jc1 ++ (bits jc2 ++ bits 0))
 unfoldable pub passes : ℕ → ℕ → ℕ → Bool
 passes jc1 jc2 jc3 = eqb jc3 (remainder jc1 jc2)
 
--- the remainder of the three bytes as read, which 02, P1 calls their remainder: zero where they
--- pass
+-- the remainder of the three bytes as read (02, P1): "In the absence of bit errors, the remainder
+-- shall be 0000 0000" (clause 17.7.1)
 unfoldable pub syndrome : ℕ → ℕ → ℕ → ℕ
 syndrome jc1 jc2 jc3 = bitXor jc3 (remainder jc1 jc2)
 
