@@ -51,8 +51,8 @@ enum odu0_standing {
 /*
  * The settings: k payload columns in a row (1 to 3,808); the window of counts lo to hi, hi at most
  * 4 * k; the inversion patterns, with which a control word says that the count changes by +1, -1,
- * +2 or -2; and whether a sink mends one wrong control bit. A source and its sinks need the same
- * patterns. Only the sink's call looks at `mending`.
+ * +2 or -2; and whether a sink mends one wrong control bit. A source and its sinks need the same k,
+ * window and patterns; only the sink's call looks at `mending`.
  *
  * Where `given` is 0 the patterns are the standard's, whatever the four numbers after it are, and
  * are never refused. Where it is any other value the four numbers are the patterns. Each is of 14
@@ -69,12 +69,13 @@ enum odu0_standing {
  * sure of a count again.
  *
  * What follows holds where each call gets the state that the call before it returned, and where the
- * accepted calls have the settings of one source, `mending` apart, and take its frames one after
- * the other, without a restart, none missing, doubled or out of its turn. A new sink never holds a
- * false count while no frame that it reads has more than three wrong control bits with mending off,
- * or more than two with mending on. With mending on, a sink that holds the source's count and reads
- * frames each with at most one wrong control bit and its other bytes unharmed keeps the count and
- * hands out each load exactly; and one in any state holds the count after two such frames.
+ * accepted calls have the settings of one source, `mending` apart, which is the same in all of
+ * them, and take its frames one after the other, without a restart, none missing, doubled or out of
+ * its turn. A new sink never holds a false count while no frame that it reads has more than three
+ * wrong control bits with mending off, or more than two with mending on. With mending on, a sink
+ * that holds the source's count and reads frames each with at most one wrong control bit and its
+ * other bytes unharmed keeps the count and hands out each load exactly; and one in any state holds
+ * the count after two such frames.
  */
 typedef struct odu0_settings {
     uint32_t k;

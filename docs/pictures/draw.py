@@ -278,7 +278,7 @@ def standings():
     say(right + 113, lower + high + 42, "middle", *held)
 
     rules = (
-        "BADCHECK: the check fails (rule 1).",
+        "BADCHECK: the check fails, and no bit is mended (rule 1).",
         "READ: II = DI, and the C bits are the count (rule 2).",
         "TRACKED: the word continues the count held (rule 3).",
         "PAIRED: it does not, but continues a possible count of the word remembered (rule 3).",

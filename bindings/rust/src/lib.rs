@@ -38,13 +38,13 @@ pub struct Settings {
     /// frames are needed to be sure of a count again.
     ///
     /// What follows holds where nothing else writes the sink's state, and where the accepted calls
-    /// have the settings of one source, `mending` apart, and take its frames one after the other,
-    /// without a restart, none missing, doubled or out of its turn. A new sink never holds a false
-    /// count while no frame that it reads has more than three wrong control bits with mending off,
-    /// or more than two with mending on. With mending on, a sink that holds the source's count and
-    /// reads frames each with at most one wrong control bit and its other bytes unharmed keeps the
-    /// count and hands out each load exactly; and one in any state holds the count after two such
-    /// frames.
+    /// have the settings of one source, `mending` apart, which is the same in all of them, and take
+    /// its frames one after the other, without a restart, none missing, doubled or out of its turn.
+    /// A new sink never holds a false count while no frame that it reads has more than three wrong
+    /// control bits with mending off, or more than two with mending on. With mending on, a sink
+    /// that holds the source's count and reads frames each with at most one wrong control bit and
+    /// its other bytes unharmed keeps the count and hands out each load exactly; and one in any
+    /// state holds the count after two such frames.
     pub mending: bool,
 }
 

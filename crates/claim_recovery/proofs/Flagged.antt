@@ -1,16 +1,17 @@
 -- Sources do not look at mending. Assumes nothing.
-use mathlib.Core.Path.{_≡_, refl, sym, ap, _∙_, subst}
+use mathlib.Core.Path.{_≡_, refl, sym, ap, _∙_, subst, subst⁻¹}
 use mathlib.Core.Bool.{Bool, true, false, cond}
 use mathlib.Core.List.{List, [], _∷_, map}
-use Prim.Native.Nat.{ℕ, zero, suc}
+use Prim.Native.Nat.{ℕ, zero, suc, _+_, _-_, _≤_}
 use Rattle.gmp_settings.specs.declared.Settings.{Settings}
 use Rattle.gmp_settings.specs.Settings.{withMending, outside}
 use Rattle.gmp_control.specs.Pattern.{tableOf}
+use Rattle.gmp_frame.specs.Frame.{controlOf, OthersSame}
 use Rattle.gmp_source.specs.declared.SourceState.{SourceState}
 use Rattle.gmp_source.specs.Source.{sourceRefusal, controlBytes, written, sourceState, sourceFrame}
-use Rattle.claim_recovery.specs.Runs.{At, Nth, SourceCall, SourceStep, sourceTakes, sourceAfter, sourceSteps, frameOf}
-use Rattle.claim_recovery.specs.Demand.{SourceRun}
-use Rattle.claim_recovery.specs.Mended.{flaggedCall, flaggedStep, SinksOwn}
+use Rattle.claim_recovery.specs.Runs.{At, Nth, SourceCall, SourceStep, SinkStep, sourceTakes, sourceAfter, sourceSteps, sinkSteps, frameOf}
+use Rattle.claim_recovery.specs.Demand.{SourceRun, Unharmed, wrongControlBits, AtMostWrong}
+use Rattle.claim_recovery.specs.Mended.{OneWrong, flaggedCall, flaggedStep, ReadsAlike, SinksOwn}
 
 same-frame : (b : Bool) (x : SourceStep) → frameOf (flaggedStep b x) ≡ frameOf x
 unfolding sourceFrame sourceRefusal outside written controlBytes tableOf
@@ -45,6 +46,37 @@ at-map f [] i y p = absurd p
 at-map f (x ∷ l) zero y p = (x, refl, p)
 at-map f (x ∷ l) (suc i) y p = at-map f l i y p
 
+map-at : {A B : Type 0} (f : A → B) (l : List A) (i : ℕ) (x : A) → At l i x → At (map f l) i (f x)
+map-at f [] i x p = absurd p
+map-at f (y ∷ l) zero x p = ap f p
+map-at f (y ∷ l) (suc i) x p = map-at f l i x p
+
+map-nth : {A B : Type 0} (f : A → B) (l : List A) (i : ℕ) (x : A) → Nth l i x → Nth (map f l) i (f x)
+map-nth f l zero x p = absurd p
+map-nth f l (suc i) x p = map-at f l i x p
+
+-- what holds of a frame that is lent holds of it as the other calls write it
+module _ (Lent : Settings → SourceStep → SinkStep → Type 0) (moves : (b : Bool) (s : Settings) (x : SourceStep) (y : SinkStep) → Lent s x y → Lent s (flaggedStep b x) y) where
+  alike : ReadsAlike Lent
+  alike b source calls s m n z reader r = record { from = r .from; shared = r .shared; lent = lent; up-to = r .up-to }
+    where
+      lent : (j : ℕ) (y : SinkStep) → Nth (sinkSteps z reader) j y → (x : SourceStep) × Nth (sourceSteps source (map (flaggedCall b) calls)) (m + j - 1) x × Lent s x y
+      lent j y p =
+          let h = r .lent j y p in (
+            flaggedStep b (h .0),
+            subst⁻¹ (λ (l : List SourceStep). Nth l (m + j - 1) (flaggedStep b (h .0))) (same-steps b source calls)
+                (map-nth (flaggedStep b) (sourceSteps source calls) (m + j - 1) (h .0) (h .1)),
+            moves b s (h .0) y (h .2),
+          )
+
+few-moves : (most : ℕ) (b : Bool) (s : Settings) (x : SourceStep) (y : SinkStep) → AtMostWrong most s x y → AtMostWrong most s (flaggedStep b x) y
+few-moves most b s x y h =
+    subst⁻¹ (λ (f : List ℕ). wrongControlBits (controlOf (s .k) f) (controlOf (s .k) (y .call .frame)) ≤ most) (same-frame b x) h
+
+one-moves : (b : Bool) (s : Settings) (x : SourceStep) (y : SinkStep) → OneWrong s x y → OneWrong s (flaggedStep b x) y
+one-moves b s x y h =
+    record { control = few-moves _ b s x y (h .control); others = subst⁻¹ (λ (f : List ℕ). OthersSame (s .k) (y .call .frame) f) (same-frame b x) (h .others) }
+
 pub sinks-own : SinksOwn
 sinks-own =
     record {
@@ -58,6 +90,9 @@ sinks-own =
           };
       steps = same-steps;
       frame = same-frame;
+      unharmed = alike (λ s. Unharmed) (λ b s x y e. e ∙ sym (same-frame b x));
+      few-wrong = λ most. alike (AtMostWrong most) (few-moves most);
+      one-wrong = alike OneWrong one-moves;
     }
   where
     shared : (b : Bool) (s : Settings) (source : SourceState) (calls : List SourceCall) → SourceRun s source calls

@@ -12,7 +12,7 @@ use Rattle.gmp_frame.specs.Frame.{controlOf, OthersSame}
 use Rattle.gmp_source.specs.declared.SourceState.{SourceState}
 use Rattle.gmp_sink.specs.declared.SinkState.{SinkState}
 use Rattle.claim_recovery.specs.Runs.{Nth, SourceCall, SinkCall, SourceStep, SinkStep, sinkAfter, sourceSteps, sinkSteps, sinkEnd, frameOf, countOf, mendedOf}
-use Rattle.claim_recovery.specs.Demand.{SourceRun, Reads, wrongControlBits, AtMostWrong, Delivers}
+use Rattle.claim_recovery.specs.Demand.{SourceRun, Reads, Unharmed, wrongControlBits, AtMostWrong, Delivers}
 
 -- A frame lent with at most one wrong control bit, its other bytes unharmed.
 pub record OneWrong (s : Settings) (x : SourceStep) (y : SinkStep) : Type 0 where
@@ -37,8 +37,9 @@ abbrev pub HoldsCount : List SourceStep → (n : ℕ) → SinkState → List Sin
 HoldsCount sent n z reader = (x : SourceStep) × Nth sent n x × (sinkEnd z reader .count ≡ Known (countOf x))
 
 -- With mending on, a sink that holds the source's count before frame m and reads frames in
--- succession, each with at most one wrong control bit, keeps each of them. One in any state holds
--- the count after two such frames, and keeps each that follows.
+-- succession, each with at most one wrong control bit, its other bytes unharmed, keeps each of
+-- them. One in any state holds the count after two such frames, and keeps each such frame that
+-- follows.
 pub record CostsNothing : Type 0 where
   pub holding : (s : Settings) → s .mending ≡ true → (source : SourceState) (calls : List SourceCall) → SourceRun s source calls
       → (m n : ℕ) (z : SinkState) → ((x : SourceStep) → Nth (sourceSteps source calls) m x → z .count ≡ Known (x .state .count))
@@ -55,11 +56,20 @@ flaggedCall b c = record { settings = withMending (c .settings) b; next = c .nex
 abbrev pub flaggedStep : Bool → SourceStep → SourceStep
 flaggedStep b x = record { call = flaggedCall b (x .call); state = x .state }
 
+-- a sink that reads the frames of some calls of a source reads those of the calls with the flag
+abbrev pub ReadsAlike : (Settings → SourceStep → SinkStep → Type 0) → Type 0
+ReadsAlike Lent =
+    (b : Bool) (source : SourceState) (calls : List SourceCall) (s : Settings) (m n : ℕ) (z : SinkState) (reader : List SinkCall)
+    → Reads s (sourceSteps source calls) (Lent s) m n z reader → Reads s (sourceSteps source (map (flaggedCall b) calls)) (Lent s) m n z reader
+
 -- Mending is the sink's own: sources do not look at it. The same calls with mending on or off are a
--- source run too, and their steps write the same frames. So what is claimed of a sink with the
--- source's settings holds where they differ in mending alone.
+-- source run too, their steps write the same frames, and a sink that reads the one reads the other.
+-- So what is claimed of a sink with the source's settings holds where they differ in mending alone.
 pub record SinksOwn : Type 0 where
   pub run : (b : Bool) (s : Settings) (source : SourceState) (calls : List SourceCall) → SourceRun s source calls
       → SourceRun (withMending s b) source (map (flaggedCall b) calls)
   pub steps : (b : Bool) (source : SourceState) (calls : List SourceCall) → sourceSteps source (map (flaggedCall b) calls) ≡ map (flaggedStep b) (sourceSteps source calls)
   pub frame : (b : Bool) (x : SourceStep) → frameOf (flaggedStep b x) ≡ frameOf x
+  pub unharmed : ReadsAlike (λ s. Unharmed)
+  pub few-wrong : (most : ℕ) → ReadsAlike (AtMostWrong most)
+  pub one-wrong : ReadsAlike OneWrong

@@ -11,8 +11,9 @@ pub fn demand_3()
     ensures { λ _. ⌜ Demand3 ⌝ }
 {}
 
-// With mending on, frames with at most one wrong control bit, their other bytes unharmed, are
-// delivered as if they were unharmed.
+// With mending on, a sink that holds the source's count keeps it and delivers each frame with at
+// most one wrong control bit, its other bytes unharmed; one in any state does so after two such
+// frames.
 pub fn mending_costs_nothing()
     ensures { λ _. ⌜ CostsNothing ⌝ }
 {}

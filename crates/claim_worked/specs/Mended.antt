@@ -1,6 +1,6 @@
 -- A run with mending on (02, P1), on the grid K = 2 with the window 0 to 8: the frames of Run.antt,
--- some with a wrong control bit, read by a new sink with mending on and by one with mending off,
--- and one frame with two wrong bits. Assumes nothing.
+-- some with a wrong control bit, read by a new sink and by one in step with the source, with
+-- mending on and off, and one frame with two wrong bits. Assumes nothing.
 use mathlib.Core.Path.{_≡_}
 use mathlib.Core.Bool.{Bool, true, false}
 use mathlib.Core.List.{List, [], _∷_}
@@ -10,10 +10,11 @@ use Rattle.gmp_settings.specs.declared.Settings.{Settings}
 use Rattle.gmp_settings.specs.Settings.{withMending}
 use Rattle.gmp_standing.specs.declared.Count.the-variants.{Known}
 use Rattle.gmp_standing.specs.Standing.{READ, TRACKED, PAIRED, BADCHECK, WAITING}
-use Rattle.gmp_control.specs.declared.Remembered.the-variants.{Word}
+use Rattle.gmp_control.specs.declared.Remembered.the-variants.{Word, Nothing}
 use Rattle.gmp_control.specs.Word.{wordBy}
+use Rattle.gmp_sink.specs.declared.SinkState.{SinkState}
 use Rattle.gmp_sink.specs.Sink.{newSink}
-use Rattle.claim_recovery.specs.Runs.{SourceCall, SinkCall, SinkStep, sourceSteps, sinkSteps, sinkEnd, mendedOf}
+use Rattle.claim_recovery.specs.Runs.{Nth, SourceCall, SinkCall, SourceStep, SinkStep, sourceSteps, sinkSteps, sinkEnd, mendedOf}
 use Rattle.claim_recovery.specs.Demand.{SourceRun, Reads, AtMostWrong}
 use Rattle.claim_recovery.specs.Mended.{OneWrong}
 use Rattle.claim_recovery.specs.Tallied.{badFramesOf}
@@ -60,6 +61,10 @@ hearings s =
     ∷ hear s frame6 tt room
     ∷ []
 
+-- a sink in step with the source before frame 1
+abbrev pub inStep : SinkState
+inStep = record { count = Known 3; word = Nothing }
+
 -- the first two of them
 abbrev pub firstTwo : List SinkCall
 firstTwo = hear mends frame1 tt room ∷ hear mends bit2 tt room ∷ []
@@ -73,7 +78,8 @@ abbrev pub mendings : List SinkStep → List Bool
 mendings [] = []
 mendings (y ∷ ys) = mendedOf y ∷ mendings ys
 
--- The hypotheses of the claims hold of these runs, and they go so.
+-- The hypotheses of the claims hold of these runs: of the new sink that hunts, of the sink in step,
+-- and of the second claim. They go so.
 pub record MendedRun : Type 0 where
   pub source-run : SourceRun mends source sendings
   pub written : frames (sourceSteps source sendings) ≡ frame1 ∷ frame2 ∷ frame3 ∷ frame4 ∷ frame5 ∷ frame6 ∷ []
@@ -85,10 +91,13 @@ pub record MendedRun : Type 0 where
   pub on-holds : sinkEnd newSink (hearings mends) .count ≡ Known 7
   -- the word that is remembered of frame 2 is the mended one, that which was written
   pub remembers : sinkEnd newSink firstTwo .word ≡ Word (wordBy 102 118)
-  -- with mending off each puts the sink back to hunting
-  pub off-answers : answers (sinkSteps newSink (hearings small)) ≡ silent WAITING ∷ silent BADCHECK ∷ silent BADCHECK ∷ silent WAITING ∷ silent BADCHECK ∷ says READ 7 ∷ []
-  pub off-mended : mendings (sinkSteps newSink (hearings small)) ≡ false ∷ false ∷ false ∷ false ∷ false ∷ false ∷ []
-  pub off-bad : badFramesOf (sinkSteps newSink (hearings small)) ≡ 3
+  -- a sink in step stays so; with mending off a wrong bit puts it back to hunting
+  pub step-holds : (x : SourceStep) → Nth (sourceSteps source sendings) 1 x → inStep .count ≡ Known (x .state .count)
+  pub step-reads : Reads mends (sourceSteps source sendings) (OneWrong mends) 1 6 inStep (hearings mends)
+  pub step-answers : answers (sinkSteps inStep (hearings mends)) ≡ says TRACKED 4 ∷ says TRACKED 6 ∷ says TRACKED 5 ∷ says TRACKED 3 ∷ says READ 3 ∷ says READ 7 ∷ []
+  pub off-answers : answers (sinkSteps inStep (hearings small)) ≡ says TRACKED 4 ∷ silent BADCHECK ∷ silent BADCHECK ∷ silent WAITING ∷ silent BADCHECK ∷ says READ 7 ∷ []
+  pub off-mended : mendings (sinkSteps inStep (hearings small)) ≡ false ∷ false ∷ false ∷ false ∷ false ∷ false ∷ []
+  pub off-bad : badFramesOf (sinkSteps inStep (hearings small)) ≡ 3
   -- two wrong bits are not mended
   pub two-reads : Reads mends (sourceSteps source sendings) (AtMostWrong (budget true) mends) 2 5 newSink harder
   pub two-answers : answers (sinkSteps newSink harder) ≡ silent WAITING ∷ says PAIRED 5 ∷ silent BADCHECK ∷ says READ 3 ∷ []

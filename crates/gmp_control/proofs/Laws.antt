@@ -88,7 +88,7 @@ pub record Safe (t : Table) (old count : ℕ) (c : Count) (r : Remembered) : Typ
 pub safe-none : (t : Table) (old count : ℕ) → Safe t old count Unknown Nothing
 safe-none t old count = record { count-true = tt; word-true = inl refl }
 
--- a word that passed is remembered where II ≠ DI
+-- a word that was read is remembered where II ≠ DI
 remembered-by : (w : ℕ) (b : Bool) → equalIndicators w ≡ b → (usable (Word w) ≡ Nothing) ⊎ ((usable (Word w) ≡ Word w) × (equalIndicators w ≡ false))
 remembered-by w true e = inl (plain-word w e)
 remembered-by w false e = inr (usable-word w e, e)

@@ -1,4 +1,4 @@
--- What the sink makes of a word that passed the check (01, "Sink", rules 2 and 3). The clause draws
+-- What the sink makes of a word that was read (01, "Sink", rules 2 and 3). The clause draws
 -- the hunting for a count as Figure 17-12. Assumes nothing.
 use mathlib.Core.Path.{_≡_}
 use mathlib.Core.Bool.{Bool, cond}
@@ -70,7 +70,7 @@ windowedBy s f Unknown = f
 abbrev pub windowed : Settings → Finding → Finding
 windowed s f = windowedBy s f (f .count)
 
--- the standing after a word w that passed the check, from this count and this remembered word, with
+-- the standing after a word w that was read, from this count and this remembered word, with
 -- this table of patterns
 unfoldable pub foundBy : Table → Settings → Count → Remembered → ℕ → Finding
 foundBy t s count before w = windowed s (reading t (inWindow s count) (usable before) w)

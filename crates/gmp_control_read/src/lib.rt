@@ -10,7 +10,7 @@ ghost use Rattle.gmp_control.specs.Word.{countBits, equalIndicators, sign, word
 ghost use Rattle.gmp_control.specs.Pattern.{tableOf};
 ghost use Rattle.gmp_control.specs.Follow.{usable, tracked, candidate, fromCount, fromWord, trackedElsePaired, reading, windowed, Follows};
 
-// What a word that passed the check leads to, from a known count or none and a remembered word or
+// What a word that was read leads to, from a known count or none and a remembered word or
 // none. A count outside the window and a remembered word with II = DI count as none.
 pub fn follow(settings: Settings, count: Count, earlier: Remembered, jc1: u8, jc2: u8) -> Followed
     ensures { λ r. ⌜ Follows settings count earlier (wordBy jc1 jc2) r ⌝ }

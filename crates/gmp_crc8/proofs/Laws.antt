@@ -16,7 +16,7 @@ use Rattle.gmp_crc8.specs.Reading.{readWord, bitIn, mended, readAs}
 use Rattle.gmp_crc8.specs.Claims.{budget, Bytes, IsOrBad, ReadsAsItself, MendsOneBit, BitsToldApart}
 use Rattle.gmp_crc8.proofs.Linear.{divide-lt}
 use Rattle.gmp_crc8.proofs.Distance.{Same, most, passed-none, distance}
-use Rattle.gmp_crc8.proofs.Mending.{flipped-word, mended-found, mended-not-bad, mended-not-whole, none-wrong, one-wrong, distinct, not-zero}
+use Rattle.gmp_crc8.proofs.Mending.{flipped-word, mended-found, mended-not-bad, mended-not-whole, none-wrong, one-wrong-found, distinct, not-zero}
 
 -- the written word passes
 pub written-passes : (jc1 jc2 : ℕ) → passes jc1 jc2 (remainder jc1 jc2) ≡ true
@@ -140,7 +140,7 @@ module _ (a b c x y z : ℕ) (u : Bytes a b c) (v : Bytes x y z) (p : passes a b
   mends-by (Whole w) e h = absurd (mended-not-whole x y (syndrome x y z) w e)
   mends-by (Mended w) e h = ap Mended (mended-same w (omega arith) e .0)
   mends-by Bad e h =
-      let j = one-wrong a b c x y z u v (passed-none a b c (subst⁻¹ T p tt)) h in
+      let j = one-wrong-found a b c x y z u v (passed-none a b c (subst⁻¹ T p tt)) h in
       absurd (mended-not-bad x y (syndrome x y z) (j .0) (j .1) (j .2) e)
 
   one-by : (t : Bool) → passes x y z ≡ t → wrongBits a b c x y z ≡ 1 → readAs true x y z ≡ Mended (readWord a b)

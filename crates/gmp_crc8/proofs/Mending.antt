@@ -254,9 +254,9 @@ unfolding oneBit syndrome remainder divide bits reduce steps
 from-end = agree-below (λ n. oneBit (23 - n)) (λ n. steps n 1) 24 tt
 
 -- A word that passes, read with one wrong bit, has the remainder of that bit.
-pub one-wrong : (a b c x y z : ℕ) → Bytes a b c → Bytes x y z → syndrome a b c ≡ 0 → wrongBits a b c x y z ≡ 1 → (j : ℕ) × (j < 24) × (oneBit j ≡ syndrome x y z)
+pub one-wrong-found : (a b c x y z : ℕ) → Bytes a b c → Bytes x y z → syndrome a b c ≡ 0 → wrongBits a b c x y z ≡ 1 → (j : ℕ) × (j < 24) × (oneBit j ≡ syndrome x y z)
 unfolding bits word
-one-wrong a b c x y z u v p h =
+one-wrong-found a b c x y z u v p h =
     let f = lone (word a b c) (word x y z) 0 tt (lit< tt) h in
     let n : ℕ = f .0 in
     (23 - n, omega arith, from-end n (f .1) ∙ sym (f .2) ∙ ap₂ bitXor (divided a b c (u .2) ∙ p) (divided x y z (v .2)))

@@ -45,7 +45,7 @@ pub fn new_sink() -> SinkState
     }
 }
 
-// With mending off the control bytes lead where they led before there was mending.
+// With mending off the control bytes lead where 01's rules lead, and nothing is mended.
 pub fn off_as_before()
     ensures { λ _. ⌜ OffAsBefore ⌝ }
 {}

@@ -142,7 +142,7 @@ fn odu0demap_takes_only_mend() {
     for text in near.into_iter().chain(blank).chain(other) {
         assert_not_mend(&[text]);
     }
-    for length in [59, 60, 61, 64, 124, 252, 4092, 5000, 100_000] {
+    for length in [3, 4, 5, 59, 60, 61, 64, 124, 252, 4092, 5000, 100_000] {
         assert_not_mend(&[&("mend".to_string() + &"\u{1}".repeat(length))]);
         assert_not_mend(&[&("mend".to_string() + &padded("", length))]);
         assert_not_mend(&[&(padded("", length) + "mend")]);
