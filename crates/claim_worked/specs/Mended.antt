@@ -3,7 +3,7 @@
 -- mending on and off, and one frame with two wrong bits. Assumes nothing.
 use mathlib.Core.Path.{_≡_}
 use mathlib.Core.Bool.{Bool, true, false}
-use mathlib.Core.List.{List, [], _∷_}
+use mathlib.Core.List.{List, [], _∷_, map}
 use Prim.Native.Nat.{ℕ}
 use Rattle.gmp_crc8.specs.Claims.{budget}
 use Rattle.gmp_settings.specs.declared.Settings.{Settings}
@@ -16,24 +16,16 @@ use Rattle.gmp_sink.specs.declared.SinkState.{SinkState}
 use Rattle.gmp_sink.specs.Sink.{newSink}
 use Rattle.claim_recovery.specs.Runs.{Nth, SourceCall, SinkCall, SourceStep, SinkStep, sourceSteps, sinkSteps, sinkEnd, mendedOf}
 use Rattle.claim_recovery.specs.Demand.{SourceRun, Reads, AtMostWrong}
-use Rattle.claim_recovery.specs.Mended.{OneWrong}
+use Rattle.claim_recovery.specs.Mended.{OneWrong, flaggedCall}
 use Rattle.claim_recovery.specs.Tallied.{badFramesOf}
-use Rattle.claim_worked.specs.Run.{small, wrong, room, send, source, frame1, frame2, frame3, frame4, frame5, frame6, hear, frames, answers, says, silent}
+use Rattle.claim_worked.specs.Run.{small, wrong, room, source, calls, frame1, frame2, frame3, frame4, frame5, frame6, hear, frames, answers, says, silent}
 
 -- the settings of all, and the calls of Run.antt's source with them
 abbrev pub mends : Settings
 mends = withMending small true
 
 abbrev pub sendings : List SourceCall
-sendings =
-    send mends 4 (11 ∷ 12 ∷ 13 ∷ [])
-    ∷ send wrong 4 (11 ∷ 12 ∷ 13 ∷ 14 ∷ [])
-    ∷ send mends 6 (21 ∷ 22 ∷ 23 ∷ 24 ∷ [])
-    ∷ send mends 5 (31 ∷ 32 ∷ 33 ∷ 34 ∷ 35 ∷ 36 ∷ [])
-    ∷ send mends 3 (41 ∷ 42 ∷ 43 ∷ 44 ∷ 45 ∷ [])
-    ∷ send mends 3 (51 ∷ 52 ∷ 53 ∷ [])
-    ∷ send mends 7 (61 ∷ 62 ∷ 63 ∷ [])
-    ∷ []
+sendings = map (flaggedCall true) calls
 
 -- frame 2 with a wrong bit in JC1, frame 3 with one in JC2, frame 5 with one in JC3, and frame 4
 -- with two

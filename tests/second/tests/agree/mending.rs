@@ -4,7 +4,7 @@
 use crate::both::{cases, settings_of, Case, Lent};
 use crate::fields::fields_of;
 use crate::given::*;
-use crate::runs::{source_run, Written};
+use crate::runs::{source_run, watch, Written};
 use odu0::ffi;
 use second::{check, read, word, Keeper, Random, Settings, Sink, Source, Standing, Taken, Tally};
 
@@ -316,30 +316,14 @@ fn as_if_unharmed(case: &mut Case, settings: Settings, frames: usize) {
     }
 }
 
-/// Watches a claim on source runs of small settings, and every tenth time on OPU0's and on large
-/// settings too.
-fn watch(name: &'static str, claim: fn(&mut Case, Settings, usize)) {
-    cases(name, 2_000, |case| {
-        let settings = small_settings(&mut case.random);
-        let frames = case.random.from_to(1, 60) as usize;
-        claim(case, settings, frames);
-        if case.index % 10 == 0 {
-            let settings = varied(&mut case.random, Settings::OPU0);
-            claim(case, settings, 6);
-            let settings = large_settings(&mut case.random);
-            claim(case, settings, 6);
-        }
-    });
-}
-
 #[test]
 fn a_wrong_bit_costs_nothing() {
-    watch("a_wrong_bit_costs_nothing", the_count_is_kept);
+    watch("a_wrong_bit_costs_nothing", 2_000, 1, the_count_is_kept);
 }
 
 #[test]
 fn single_errors_go_as_if_unharmed() {
-    watch("single_errors_go_as_if_unharmed", as_if_unharmed);
+    watch("single_errors_go_as_if_unharmed", 2_000, 1, as_if_unharmed);
 }
 
 /// The worst line that mending can bear: every frame of OPU0 with a wrong bit, each of the 24 in

@@ -270,10 +270,10 @@ pub fn no_false_count(case: &mut Case, settings: Settings, frames: usize) {
     }
 }
 
-/// Watches a claim on source runs of small settings, from so many frames on, and every tenth time
-/// on OPU0's and on large settings too.
-fn watch(name: &'static str, least: u32, claim: fn(&mut Case, Settings, usize)) {
-    cases(name, 6_000, |case| {
+/// Watches a claim on so many source runs of small settings, from so many frames on, and every
+/// tenth time on OPU0's and on large settings too.
+pub fn watch(name: &'static str, runs: u64, least: u32, claim: fn(&mut Case, Settings, usize)) {
+    cases(name, runs, |case| {
         let settings = small_settings(&mut case.random);
         let frames = case.random.from_to(least, 60) as usize;
         claim(case, settings, frames);
@@ -288,10 +288,10 @@ fn watch(name: &'static str, least: u32, claim: fn(&mut Case, Settings, usize)) 
 
 #[test]
 fn demand_3_back_after_two_frames() {
-    watch("demand_3_back_after_two_frames", 2, back_after_two_frames);
+    watch("demand_3_back_after_two_frames", 6_000, 2, back_after_two_frames);
 }
 
 #[test]
 fn demand_3_no_false_count() {
-    watch("demand_3_no_false_count", 1, no_false_count);
+    watch("demand_3_no_false_count", 6_000, 1, no_false_count);
 }
