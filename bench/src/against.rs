@@ -1,9 +1,9 @@
 //! The library of one commit beside that of another, both loaded at once. `bench/against` makes
-//! them. Both must take the settings of this tree's odu0.h.
+//! them. Both must take the settings, the port and the tallies of this tree's odu0.h.
 
 use crate::{race, Job};
 use odu0::ffi::{Settings, Sink, SinkReply, SourceReply};
-use odu0::{Source, Tally};
+use odu0::{Source, Tallies};
 use std::cell::RefCell;
 use std::ffi::{c_char, c_int, c_void, CString};
 use std::hint::black_box;
@@ -12,8 +12,16 @@ use std::mem::transmute;
 type Check = unsafe extern "C" fn(u8, u8) -> u8;
 type SourceCall =
     unsafe extern "C" fn(Settings, Source, u32, *const u8, usize, *mut u8, usize) -> SourceReply;
-type SinkCall =
-    unsafe extern "C" fn(Settings, Sink, *const u8, usize, *mut u8, usize, *mut Tally) -> SinkReply;
+type SinkCall = unsafe extern "C" fn(
+    Settings,
+    Sink,
+    *const u8,
+    usize,
+    *mut u8,
+    usize,
+    u32,
+    *mut Tallies,
+) -> SinkReply;
 
 extern "C" {
     fn dlopen(file: *const c_char, flags: c_int) -> *mut c_void;
@@ -67,17 +75,15 @@ impl Library {
         assert_eq!(reply.refusal, 0);
     }
 
-    fn sink(&self, job: &Job, out: &mut [u8]) {
+    fn sink(&self, job: &Job, out: &mut [u8], tallies: &mut Tallies) {
         let (count, frame) = (job.client.len() as u32, black_box(&job.frame[..]));
-        let mut tally = Tally::default();
         let state = Sink { known: 1, count, remembered: 0, word: 0 };
         let out = black_box(out);
         let (at, length) = (out.as_mut_ptr(), out.len());
         let settings = Settings::from(job.settings);
-        // SAFETY: the buffers and the tally are live and do not overlap.
-        let reply = unsafe {
-            (self.sink)(settings, state, frame.as_ptr(), frame.len(), at, length, &mut tally)
-        };
+        let (from, bytes) = (frame.as_ptr(), frame.len());
+        // SAFETY: the buffers and the tallies are live and do not overlap.
+        let reply = unsafe { (self.sink)(settings, state, from, bytes, at, length, 1, tallies) };
         assert_eq!((reply.refusal, reply.handed), (0, count));
     }
 }
@@ -124,8 +130,10 @@ pub fn main(before: &str, after: &str) {
         let job = &Job::new(k, count);
         let frame = &RefCell::new(job.frame.clone());
         let out = &RefCell::new(vec![0; 4 * k as usize]);
+        let tallies = &RefCell::new(Tallies::new());
         let source = |library: &Library| library.source(job, &mut frame.borrow_mut());
-        let sink = |library: &Library| library.sink(job, &mut out.borrow_mut());
+        let sink =
+            |library: &Library| library.sink(job, &mut out.borrow_mut(), &mut tallies.borrow_mut());
         for library in &libraries {
             frame.borrow_mut().fill(0xEE);
             out.borrow_mut().fill(0xEE);

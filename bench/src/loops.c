@@ -1,6 +1,7 @@
 /*
  * The placing and the taking of client bytes in C: byte by byte, and run by run with memcpy.
- * Control bytes are the caller's. At the end the check, from tables and by steps.
+ * Control bytes and tallies are the caller's. At the end the card's total, and the check, from
+ * tables and by steps.
  */
 #include <stddef.h>
 #include <stdint.h>
@@ -100,6 +101,24 @@ void runs_take(const uint8_t *frame, uint8_t *out, size_t k, size_t c)
         out += k - i;
         m -= k - i;
     }
+}
+
+/* The tallies of eight ports and their total, as odu0.h has them. */
+struct tallies {
+    uint32_t port[8][3];
+};
+
+struct total {
+    uint64_t number[3];
+};
+
+struct total loop_total(const struct tallies *tallies)
+{
+    struct total total = {{0, 0, 0}};
+    for (size_t port = 0; port < 8; port++)
+        for (size_t i = 0; i < 3; i++)
+            total.number[i] += tallies->port[port][i];
+    return total;
 }
 
 static uint8_t tables[2][256];

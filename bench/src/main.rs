@@ -1,11 +1,12 @@
 //! Times the proved source call and sink call on frames beside plain and fast versions that nobody
-//! proved, and the sink call with mending on beside that with mending off, in one run, as ratios.
-//! All versions are first seen to agree, and with the argument `check` that is all. With `against`,
-//! two libraries are timed beside each other instead.
+//! proved, the sink call with mending on beside that with mending off and on eight ports beside
+//! that on one, and the card's total beside a loop in C, in one run, as ratios. All versions are
+//! first seen to agree, and with the argument `check` that is all. With `against`, two libraries
+//! are timed beside each other instead.
 
 mod against;
 
-use odu0::{Settings, Sink, Source, Tally};
+use odu0::{Settings, Sink, Source, Tallies, Tally, Total, PORTS};
 use std::cell::{Cell, RefCell};
 use std::hint::black_box;
 use std::time::Instant;
@@ -15,6 +16,7 @@ extern "C" {
     fn loop_take(frame: *const u8, out: *mut u8, k: usize, c: usize);
     fn runs_place(frame: *mut u8, client: *const u8, k: usize, c: usize);
     fn runs_take(frame: *const u8, out: *mut u8, k: usize, c: usize);
+    fn loop_total(tallies: *const Tallies) -> Total;
 }
 
 /// Calls `run` with each run of client bytes of a frame: where it begins, its length, and whether a
@@ -110,7 +112,7 @@ impl Job {
         }
         rust_take(&self.frame, &mut outs[2], k, c);
         let mut sink = Sink { count: Some(c as u32), word: None };
-        sink.call(self.settings, &self.frame, &mut outs[3], &mut Tally::default()).unwrap();
+        sink.call(self.settings, &self.frame, &mut outs[3], 1, &mut Tallies::new()).unwrap();
         assert!(outs.iter().all(|o| o[..c] == self.client[..]), "taking differs: k {k}, count {c}");
         self.agree_mended(&mut outs[0]);
     }
@@ -123,7 +125,7 @@ impl Job {
         for wrong in (0..24).map(Some).chain([None]) {
             out.fill(0);
             self.turn_over(&mut frame, wrong);
-            let taken = sink.call(on, &frame, out, &mut Tally::default()).unwrap();
+            let taken = sink.call(on, &frame, out, 1, &mut Tallies::new()).unwrap();
             self.turn_over(&mut frame, wrong);
             assert_eq!((taken.mended, sink.count), (wrong.is_some(), Some(count)), "{wrong:?}");
             assert!(out.starts_with(&self.client), "k {}, count {count}, {wrong:?}", on.k);
@@ -176,10 +178,10 @@ fn measure(job: &Job) -> ([f64; 5], [f64; 5]) {
     let [o0, o1, o2, o3, o4] = &mut outs;
     let frame = &job.frame[..];
     let mut sink = Sink { count: Some(c as u32), word: None };
-    let mut tally = Tally::default();
+    let mut tallies = Tallies::new();
     let take = race([
         Box::new(|| {
-            sink.call(s, black_box(frame), black_box(o0), &mut tally).unwrap();
+            sink.call(s, black_box(frame), black_box(o0), 1, &mut tallies).unwrap();
         }),
         Box::new(|| unsafe {
             loop_take(black_box(frame).as_ptr(), black_box(&mut *o1).as_mut_ptr(), k, c)
@@ -200,13 +202,13 @@ fn measure_mending(job: &Job) -> [f64; 3] {
     let sink = RefCell::new(Sink { count: Some(job.client.len() as u32), word: None });
     let frame = RefCell::new(job.frame.clone());
     let out = RefCell::new(vec![0; job.settings.hi as usize]);
-    let (tally, turn) = (RefCell::new(Tally::default()), Cell::new(0));
+    let (tallies, turn) = (RefCell::new(Tallies::new()), Cell::new(0));
     let take = |settings: Settings, wrong: Option<usize>| {
         let mut frame = frame.borrow_mut();
         job.turn_over(&mut frame, wrong);
-        let (mut out, mut tally) = (out.borrow_mut(), tally.borrow_mut());
+        let (mut out, mut tallies) = (out.borrow_mut(), tallies.borrow_mut());
         let (from, to) = (black_box(&frame[..]), black_box(&mut out[..]));
-        let taken = sink.borrow_mut().call(settings, from, to, &mut tally).unwrap();
+        let taken = sink.borrow_mut().call(settings, from, to, 1, &mut tallies).unwrap();
         assert_eq!(taken.mended, wrong.is_some());
         job.turn_over(&mut frame, wrong);
     };
@@ -218,6 +220,48 @@ fn measure_mending(job: &Job) -> [f64; 3] {
             take(on, Some(turn.get()));
         }),
     ])
+}
+
+/// The times of the sink on one port, and on each of the eight in turn. Both are lent the same
+/// buffers and tallies.
+fn measure_ports(job: &Job) -> [f64; 2] {
+    let sink = RefCell::new(Sink { count: Some(job.client.len() as u32), word: None });
+    let out = RefCell::new(vec![0; job.settings.hi as usize]);
+    let (tallies, turn) = (RefCell::new(Tallies::new()), Cell::new(0));
+    let take = |ports: u32| {
+        turn.set((turn.get() + 1) % ports);
+        let (mut out, mut tallies) = (out.borrow_mut(), tallies.borrow_mut());
+        let (from, to) = (black_box(&job.frame[..]), black_box(&mut out[..]));
+        let port = 1 + turn.get();
+        sink.borrow_mut().call(job.settings, from, to, port, &mut tallies).unwrap();
+    };
+    race([Box::new(|| take(1)), Box::new(|| take(PORTS))])
+}
+
+/// Tallies whose numbers differ, up to the largest.
+fn some_tallies() -> Tallies {
+    let number = |i: u32| u32::MAX - i * 150_000_000;
+    let tally = |i| Tally { frames: number(i), bad: number(i + 1), bytes: number(i + 2) };
+    Tallies { port: std::array::from_fn(|port| tally(3 * port as u32)) }
+}
+
+/// The card's total in C.
+fn c_total(tallies: &Tallies) -> Total {
+    // SAFETY: the tallies are live.
+    unsafe { loop_total(tallies) }
+}
+
+/// The times of the card's total: ours, and that in C.
+fn measure_total() -> [f64; 2] {
+    const TOTALS: u32 = 100;
+    let tallies = some_tallies();
+    let many = |total: fn(&Tallies) -> Total| {
+        for _ in 0..TOTALS {
+            black_box(total(black_box(&tallies)));
+        }
+    };
+    let times = race([Box::new(|| many(Tallies::total)), Box::new(|| many(c_total))]);
+    times.map(|time| time / f64::from(TOTALS))
 }
 
 fn show(title: &str, t: [f64; 5]) {
@@ -245,6 +289,7 @@ fn main() {
     }
     let opu0 = Job::new(3808, 14407);
     opu0.agree();
+    assert_eq!(some_tallies().total(), c_total(&some_tallies()), "the totals differ");
     println!("all versions agree");
     if arguments == ["check"] {
         return;
@@ -262,6 +307,14 @@ fn main() {
             wrong / off
         );
     }
+    println!("sink call on each port in turn:");
+    for (k, count) in [(3808, 14407), (1, 4), (1, 0)] {
+        let [one, eight] = measure_ports(&Job::new(k, count));
+        let title = format!("  K = {k}, {count}");
+        println!("{title:<28} {eight:>9.0} ns   {:.2} of one port", eight / one);
+    }
+    let [ours, plain] = measure_total();
+    println!("{:<28} {ours:>9.1} ns   {:.2} of a C loop", "the card's total", ours / plain);
     println!("with K, at 14407 / 15232 of the payload:");
     for k in [119, 476, 1904, 3808] {
         let (p, t) = measure(&Job::new(k, (4 * k) * 14407 / 15232));

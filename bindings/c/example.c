@@ -9,10 +9,10 @@
 #include <string.h>
 
 /*
- * The rate of 1000BASE-X is P / Q client bytes a frame. The sink reads from frame FROM, and frame
- * HARMED is harmed.
+ * The rate of 1000BASE-X is P / Q client bytes a frame. The sink is on port PORT of the card and
+ * reads from frame FROM, and frame HARMED is harmed.
  */
-enum { P = 18671875, Q = 1296, FRAMES = 12, FROM = 4, HARMED = 8 };
+enum { P = 18671875, Q = 1296, FRAMES = 12, FROM = 4, HARMED = 8, PORT = 1 };
 
 /* The largest buffers that OPU0 needs. */
 static uint8_t client[14410], frame[15240], out[14410];
@@ -28,9 +28,10 @@ static const char *name(uint32_t standing)
 int main(void)
 {
     const odu0_settings opu0 = ODU0_OPU0;
-    odu0_tally tally = {0, 0, 0};
+    odu0_tallies tallies = {{{0, 0, 0}}};
     odu0_sink sink = odu0_sink_new();
     odu0_sink_reply taken;
+    odu0_tally tally;
     int n;
 
     /* The keeper's first count is the source's first; 07 is the payload type. */
@@ -64,7 +65,7 @@ int main(void)
         /* The state that a call returns goes into the next call. */
         if (n < FROM)
             continue;
-        taken = odu0_sink_call(opu0, sink, frame, sizeof frame, out, sizeof out, &tally);
+        taken = odu0_sink_call(opu0, sink, frame, sizeof frame, out, sizeof out, PORT, &tallies);
         sink = taken.state;
         if (taken.refusal != ODU0_ACCEPTED)
             return 1;
@@ -74,11 +75,12 @@ int main(void)
         printf("frame %d: %s, count %s, handed %lu, equal %s\n", n, name(taken.standing), found,
                (unsigned long)taken.handed, equal ? "yes" : "no");
     }
+    tally = tallies.port[PORT - 1];
     printf("tally: frames %lu, bad %lu, bytes %lu\n", (unsigned long)tally.frames,
            (unsigned long)tally.bad, (unsigned long)tally.bytes);
 
     /* A frame that is one byte short is turned back, and changes nothing. */
-    taken = odu0_sink_call(opu0, sink, frame, sizeof frame - 1, out, sizeof out, &tally);
+    taken = odu0_sink_call(opu0, sink, frame, sizeof frame - 1, out, sizeof out, PORT, &tallies);
     printf("a frame of %lu bytes: refusal %lu\n", (unsigned long)(sizeof frame - 1),
            (unsigned long)taken.refusal);
     return 0;

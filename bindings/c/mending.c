@@ -12,7 +12,8 @@
 static const uint32_t counts[] = {14407, 14408, 14407, 14409, 14408, 14408, 14407,
                                   14408, 14409, 14407, 14408, 14407, 14408};
 
-enum { FRAMES = sizeof counts / sizeof counts[0] - 1 };
+/* The sink is on port PORT of the card. */
+enum { FRAMES = sizeof counts / sizeof counts[0] - 1, PORT = 1 };
 
 /* The control bits that are turned over in each frame: JC1, JC2 and JC3. */
 static const uint8_t wrong[FRAMES][3] = {
@@ -35,7 +36,8 @@ static const char *name(uint32_t standing)
 static int job(odu0_settings settings)
 {
     const odu0_settings opu0 = ODU0_OPU0;
-    odu0_tally tally = {0, 0, 0};
+    odu0_tallies tallies = {{{0, 0, 0}}};
+    odu0_tally tally;
     odu0_sink sink = odu0_sink_new();
     int n, whole = 0;
 
@@ -64,7 +66,8 @@ static int job(odu0_settings settings)
         for (row = 0; row < 3; row++)
             frame[row * 3810 + 1] ^= wrong[n - 1][row];
 
-        taken = odu0_sink_call(settings, sink, frame, sizeof frame, out, sizeof out, &tally);
+        taken = odu0_sink_call(settings, sink, frame, sizeof frame, out, sizeof out, PORT,
+                               &tallies);
         sink = taken.state;
         if (taken.refusal != ODU0_ACCEPTED)
             return 0;
@@ -76,6 +79,7 @@ static int job(odu0_settings settings)
                found, taken.mended ? "yes" : "no", (unsigned long)taken.handed,
                equal ? "yes" : "no");
     }
+    tally = tallies.port[PORT - 1];
     printf("tally: frames %lu, bad %lu, bytes %lu\n", (unsigned long)tally.frames,
            (unsigned long)tally.bad, (unsigned long)tally.bytes);
     printf("loads that arrived whole: %d of %d\n", whole, FRAMES);

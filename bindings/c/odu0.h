@@ -3,9 +3,9 @@
  *
  * Every function accepts every value of every argument and buffers of every length, and ends with
  * an answer or a refusal. A refused call changes no buffer, no state and no tally. A buffer is a
- * pointer and its length in bytes; a buffer of length 0 may be NULL. The buffers and the tally of
- * one call must not overlap. The library keeps no state of its own: the caller keeps what a call
- * returns and passes it to the next.
+ * pointer and its length in bytes; a buffer of length 0 may be NULL, the tallies may not. The
+ * buffers and the tallies of one call must not overlap. The library keeps no state of its own: the
+ * caller keeps what a call returns and passes it to the next.
  */
 #ifndef ODU0_H
 #define ODU0_H
@@ -20,7 +20,7 @@ extern "C" {
 /*
  * Why a call is turned back: the refusal's number, its name and when it applies. A call that more
  * than one of these applies to answers the lowest number. 0 says that the call was accepted; no
- * call here answers 10 to 13.
+ * call here answers 11 to 13.
  */
 enum odu0_refusal {
     ODU0_ACCEPTED = 0,
@@ -33,6 +33,7 @@ enum odu0_refusal {
     ODU0_CLIENT = 7,   /* client: the client bytes are not exactly the present count */
     ODU0_FRAME = 8,    /* frame: the frame buffer is not exactly 4 * k + 8 bytes */
     ODU0_SPACE = 9,    /* space: the output buffer is shorter than hi */
+    ODU0_PORT = 10,    /* port: the port is 0 or above 8 */
     ODU0_PATTERNS = 14 /* patterns: four are given; plus1 ^ plus2 is not minus1 ^ minus2, or is 0,
                           or one of the four is above 16,383 */
 };
@@ -134,15 +135,38 @@ typedef struct odu0_sink {
     uint32_t word;
 } odu0_sink;
 
+/* How many ports a card has. They are numbered from 1. */
+#define ODU0_PORTS 8
+
 /*
- * One tally for the whole card: frames taken, BADCHECK frames, of which a mended frame is none, and
- * bytes handed out. Each stays at its largest value.
+ * The tally of one port: frames taken, BADCHECK frames, of which a mended frame is none, and bytes
+ * handed out. Each stays at its largest value, 4,294,967,295.
  */
 typedef struct odu0_tally {
     uint32_t frames;
     uint32_t bad;
     uint32_t bytes;
 } odu0_tally;
+
+/*
+ * The tallies of a card's eight ports, in their order: that of port p is port[p - 1]. The caller
+ * keeps them, begins with all 24 numbers at zero, and lends the same tallies to the calls of all
+ * the card's sinks, but never to two calls at once: two threads that do so may lose frames,
+ * whichever ports they name. ports.c shows a whole card.
+ */
+typedef struct odu0_tallies {
+    odu0_tally port[ODU0_PORTS];
+} odu0_tallies;
+
+/*
+ * The card's total: of each of the three numbers the sum over the eight ports, in 64 bits. A number
+ * that has stopped at its largest value counts with that value.
+ */
+typedef struct odu0_total {
+    uint64_t frames;
+    uint64_t bad;
+    uint64_t bytes;
+} odu0_total;
 
 /* The answer to a source: the refusal's number, 0 if accepted, and the state to go on from. */
 typedef struct odu0_source_reply {
@@ -218,8 +242,13 @@ odu0_sink odu0_sink_new(void);
 /*
  * Takes a frame: hands out, to the start of the output buffer, the client bytes at the places of
  * the count known before, leaves the bytes after them as they were, follows the control word, which
- * it mends before where the settings say so and it can, and counts the frame in the tally. The
- * frame itself is left as it came. Refusals 1, 2, 8, 9, 14.
+ * it mends before where the settings say so and it can, and counts the frame in the tally of the
+ * port that it names, 1 to 8; the numbers of the other seven ports keep their content. The frame
+ * itself is left as it came. Refusals 1, 2, 8, 9, 10, 14.
+ *
+ * Which sink is on which port is the caller's: several sinks may name one port, and a sink may name
+ * another port in its next call. But for refusal 10 the port has no part in what is handed out, in
+ * the answer or in the state.
  */
 odu0_sink_reply odu0_sink_call(odu0_settings settings,
                                odu0_sink state,
@@ -227,7 +256,14 @@ odu0_sink_reply odu0_sink_call(odu0_settings settings,
                                size_t frame_len,
                                uint8_t *out,
                                size_t out_len,
-                               odu0_tally *tally);
+                               uint32_t port,
+                               odu0_tallies *tallies);
+
+/*
+ * The card's total of tallies with any content, which they keep. Nothing is refused or cut: eight
+ * times 4,294,967,295 is 34,359,738,360.
+ */
+odu0_total odu0_card_total(const odu0_tallies *tallies);
 
 #ifdef __cplusplus
 }

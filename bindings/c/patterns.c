@@ -15,8 +15,8 @@
  */
 static const uint32_t counts[] = {14407, 14408, 14410, 14409, 14407, 14407, 14410, 14409, 14407};
 
-/* The sink reads from frame FROM. */
-enum { FRAMES = sizeof counts / sizeof counts[0] - 1, FROM = 2 };
+/* The sink is on port PORT of the card and reads from frame FROM; another sink is on port OTHER. */
+enum { FRAMES = sizeof counts / sizeof counts[0] - 1, FROM = 2, PORT = 1, OTHER = 2 };
 
 /* The largest buffers that OPU0 needs. */
 static uint8_t client[14410], frame[15240], out[14410];
@@ -40,7 +40,7 @@ int main(void)
                                                                0x1555, 0x2AAA);
     const odu0_settings opu0 = ODU0_OPU0;
     odu0_settings broken = customer;
-    odu0_tally tally = {0, 0, 0};
+    odu0_tallies tallies = {{{0, 0, 0}}};
     odu0_sink sink = odu0_sink_new(), other = odu0_sink_new();
     odu0_sink_reply taken;
     uint32_t said[2] = {ODU0_REFUSED, ODU0_REFUSED};
@@ -70,13 +70,15 @@ int main(void)
 
         /* Another sink reads the first two of these frames with the standard's patterns. */
         if (n < FROM + 2) {
-            taken = odu0_sink_call(opu0, other, frame, sizeof frame, out, sizeof out, &tally);
+            taken = odu0_sink_call(opu0, other, frame, sizeof frame, out, sizeof out, OTHER,
+                                   &tallies);
             other = taken.state;
             said[n - FROM] = taken.standing;
         }
 
         /* With the customer's patterns the count is there after two frames. */
-        taken = odu0_sink_call(customer, sink, frame, sizeof frame, out, sizeof out, &tally);
+        taken = odu0_sink_call(customer, sink, frame, sizeof frame, out, sizeof out, PORT,
+                               &tallies);
         sink = taken.state;
         if (taken.refusal != ODU0_ACCEPTED)
             return 1;
@@ -93,11 +95,11 @@ int main(void)
 
     /* With one bit of -2 turned over, the two for minus differ elsewhere than the two for plus. */
     broken.minus2 ^= 1;
-    taken = odu0_sink_call(broken, sink, frame, sizeof frame, out, sizeof out, &tally);
+    taken = odu0_sink_call(broken, sink, frame, sizeof frame, out, sizeof out, PORT, &tallies);
     printf("one bit of -2 turned over: refusal %lu\n", (unsigned long)taken.refusal);
 
     /* The lowest number that applies is the answer: a short output buffer comes first. */
-    taken = odu0_sink_call(broken, sink, frame, sizeof frame, out, sizeof out - 1, &tally);
+    taken = odu0_sink_call(broken, sink, frame, sizeof frame, out, sizeof out - 1, PORT, &tallies);
     printf("and an output buffer of %lu bytes: refusal %lu\n", (unsigned long)(sizeof out - 1),
            (unsigned long)taken.refusal);
     return 0;

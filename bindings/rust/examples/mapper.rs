@@ -2,7 +2,7 @@
 //! of the source's run, at a frame whose word says only "one more than before"; and one frame is
 //! harmed on its way. bindings/c/example.c does the same and prints the same lines.
 
-use odu0::{Keeper, Refusal, Settings, Sink, Source, Tally};
+use odu0::{Keeper, Refusal, Settings, Sink, Source, Tallies};
 
 /// The rate of 1000BASE-X is P / Q client bytes a frame.
 const P: u32 = 18671875;
@@ -13,9 +13,12 @@ const FRAMES: u32 = 12;
 const FROM: u32 = 4;
 const HARMED: u32 = 8;
 
+/// The sink's port on the card.
+const PORT: u32 = 1;
+
 fn main() -> Result<(), Refusal> {
     let opu0 = Settings::OPU0;
-    let mut tally = Tally::default();
+    let mut tallies = Tallies::new();
     let mut sink = Sink::new();
     let mut frame = vec![0; 15240];
     let mut out = vec![0; 14410];
@@ -41,7 +44,7 @@ fn main() -> Result<(), Refusal> {
         if n < FROM {
             continue;
         }
-        let taken = sink.call(opu0, &frame, &mut out, &mut tally)?;
+        let taken = sink.call(opu0, &frame, &mut out, PORT, &mut tallies)?;
         let count = taken.standing.count().map_or("-".to_string(), |count| count.to_string());
         let equal = out[..taken.handed as usize] == client[..];
         println!(
@@ -51,11 +54,12 @@ fn main() -> Result<(), Refusal> {
             if equal { "yes" } else { "no" }
         );
     }
+    let tally = tallies.of(PORT).unwrap();
     println!("tally: frames {}, bad {}, bytes {}", tally.frames, tally.bad, tally.bytes);
 
     // A frame that is one byte short is turned back, and changes nothing.
     frame.pop();
-    let refusal = sink.call(opu0, &frame, &mut out, &mut tally).unwrap_err();
+    let refusal = sink.call(opu0, &frame, &mut out, PORT, &mut tallies).unwrap_err();
     println!("a frame of {} bytes: refusal {}", frame.len(), refusal.number());
     Ok(())
 }

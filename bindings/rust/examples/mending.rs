@@ -2,7 +2,7 @@
 //! wrong, once in JC3, and in one frame two are. The sink reads the frames once with mending off
 //! and once with mending on. bindings/c/mending.c does the same and prints the same lines.
 
-use odu0::{Refusal, Settings, Sink, Source, Tally};
+use odu0::{Refusal, Settings, Sink, Source, Tallies};
 
 /// The count of each frame, and at last the one that the last frame announces.
 const COUNTS: [u32; 13] =
@@ -24,6 +24,9 @@ const WRONG: [[u8; 3]; 12] = [
     [0, 0, 0],
 ];
 
+/// The sink's port on the card.
+const PORT: u32 = 1;
+
 fn yes(it_is: bool) -> &'static str {
     if it_is {
         "yes"
@@ -34,7 +37,7 @@ fn yes(it_is: bool) -> &'static str {
 
 /// The whole job with these settings of the sink.
 fn job(settings: Settings) -> Result<(), Refusal> {
-    let mut tally = Tally::default();
+    let mut tallies = Tallies::new();
     let mut sink = Sink::new();
     let mut frame = vec![0; 15240];
     let mut out = vec![0; 14410];
@@ -55,7 +58,7 @@ fn job(settings: Settings) -> Result<(), Refusal> {
             frame[row * 3810 + 1] ^= bits;
         }
 
-        let taken = sink.call(settings, &frame, &mut out, &mut tally)?;
+        let taken = sink.call(settings, &frame, &mut out, PORT, &mut tallies)?;
         let count = taken.standing.count().map_or("-".to_string(), |count| count.to_string());
         let equal = out[..taken.handed as usize] == client[..];
         whole += u32::from(equal);
@@ -67,6 +70,7 @@ fn job(settings: Settings) -> Result<(), Refusal> {
             yes(equal)
         );
     }
+    let tally = tallies.of(PORT).unwrap();
     println!("tally: frames {}, bad {}, bytes {}", tally.frames, tally.bad, tally.bytes);
     println!("loads that arrived whole: {whole} of {}", WRONG.len());
     Ok(())

@@ -3,7 +3,7 @@
 //! with the standard's patterns does not follow this source, and that patterns which break the rule
 //! are turned back. bindings/c/patterns.c does the same and prints the same lines.
 
-use odu0::{Patterns, Refusal, Settings, Sink, Source, Tally};
+use odu0::{Patterns, Refusal, Settings, Sink, Source, Tallies};
 
 /// The customer's table, from C1 to C14. The two for plus differ in 10100101101001, and so do the
 /// two for minus.
@@ -21,9 +21,13 @@ const COUNTS: [u32; 9] = [14407, 14408, 14410, 14409, 14407, 14407, 14410, 14409
 /// The sink reads from frame FROM.
 const FROM: usize = 2;
 
+/// The sink's port on the card, and that of another sink.
+const PORT: u32 = 1;
+const OTHER: u32 = 2;
+
 fn main() -> Result<(), Refusal> {
     let customer = Settings::OPU0.with_patterns(TABLE);
-    let mut tally = Tally::default();
+    let mut tallies = Tallies::new();
     let (mut sink, mut other) = (Sink::new(), Sink::new());
     let mut said = Vec::new();
     let mut frame = vec![0; 15240];
@@ -44,12 +48,12 @@ fn main() -> Result<(), Refusal> {
 
         // Another sink reads the first two of these frames with the standard's patterns.
         if n < FROM + 2 {
-            let taken = other.call(Settings::OPU0, &frame, &mut out, &mut tally)?;
+            let taken = other.call(Settings::OPU0, &frame, &mut out, OTHER, &mut tallies)?;
             said.push(taken.standing.name());
         }
 
         // With the customer's patterns the count is there after two frames.
-        let taken = sink.call(customer, &frame, &mut out, &mut tally)?;
+        let taken = sink.call(customer, &frame, &mut out, PORT, &mut tallies)?;
         let count = taken.standing.count().map_or("-".to_string(), |count| count.to_string());
         let equal = out[..taken.handed as usize] == client[..];
         println!(
@@ -70,12 +74,12 @@ fn main() -> Result<(), Refusal> {
 
     // With one bit of −2 turned over, the two for minus differ elsewhere than the two for plus.
     let broken = Settings::OPU0.with_patterns(Patterns { minus2: TABLE.minus2 ^ 1, ..TABLE });
-    let refusal = sink.call(broken, &frame, &mut out, &mut tally).unwrap_err();
+    let refusal = sink.call(broken, &frame, &mut out, PORT, &mut tallies).unwrap_err();
     println!("one bit of -2 turned over: refusal {}", refusal.number());
 
     // The lowest number that applies is the answer: a short output buffer comes first.
     out.pop();
-    let refusal = sink.call(broken, &frame, &mut out, &mut tally).unwrap_err();
+    let refusal = sink.call(broken, &frame, &mut out, PORT, &mut tallies).unwrap_err();
     println!("and an output buffer of {} bytes: refusal {}", out.len(), refusal.number());
     Ok(())
 }

@@ -3,7 +3,7 @@
 
 #![allow(missing_docs)]
 
-use crate::{Source, Tally};
+use crate::{Source, Tallies, Total};
 
 /// odu0_settings: a `given` of 0 says the standard's patterns, whatever the four numbers after it
 /// are; any other value says that they are the patterns. A `mending` of 0 says off, any other value
@@ -83,6 +83,8 @@ extern "C" {
         frame_len: usize,
         out: *mut u8,
         out_len: usize,
-        tally: *mut Tally,
+        port: u32,
+        tallies: *mut Tallies,
     ) -> SinkReply;
+    pub fn odu0_card_total(tallies: *const Tallies) -> Total;
 }

@@ -4,8 +4,8 @@
 //! answer or a [`Refusal`]. A refused call changes no buffer, no state and no tally. The library
 //! keeps no state of its own; a state is plain data in the caller's hands, and nothing here
 //! allocates. `examples/mapper.rs` shows a whole job, `examples/patterns.rs` one with inversion
-//! patterns other than the standard's, and `examples/mending.rs` one over a span that turns single
-//! bits over.
+//! patterns other than the standard's, `examples/mending.rs` one over a span that turns single bits
+//! over, and `examples/ports.rs` a card with eight ports, of which one has a bad span.
 
 #![no_std]
 #![warn(missing_docs)]
@@ -107,6 +107,8 @@ pub enum Refusal {
     Frame = 8,
     /// 9: the output buffer is shorter than hi.
     Space = 9,
+    /// 10: the port is 0 or above 8.
+    Port = 10,
     /// 14: four patterns are given; plus1 ^ plus2 is not minus1 ^ minus2, or is 0, or one of the
     /// four is above 16,383.
     Patterns = 14,
@@ -114,7 +116,7 @@ pub enum Refusal {
 
 impl Refusal {
     /// Every refusal, in the order of their numbers.
-    pub const ALL: [Refusal; 10] = [
+    pub const ALL: [Refusal; 11] = [
         Refusal::Grid,
         Refusal::Window,
         Refusal::Divisor,
@@ -124,10 +126,11 @@ impl Refusal {
         Refusal::Client,
         Refusal::Frame,
         Refusal::Space,
+        Refusal::Port,
         Refusal::Patterns,
     ];
 
-    /// Its number, 1 to 9 or 14.
+    /// Its number, 1 to 10 or 14.
     pub fn number(self) -> u32 {
         self as u32
     }
@@ -144,6 +147,7 @@ impl Refusal {
             Refusal::Client => "client",
             Refusal::Frame => "frame",
             Refusal::Space => "space",
+            Refusal::Port => "port",
             Refusal::Patterns => "patterns",
         }
     }
@@ -288,7 +292,10 @@ impl Keeper {
     }
 }
 
-/// One tally for the whole card, lent to each call of a sink. A field stays at its largest value.
+/// How many ports a card has. They are numbered from 1.
+pub const PORTS: u32 = 8;
+
+/// The tally of one port. A field stays at its largest value, 4,294,967,295.
 #[repr(C)]
 #[derive(Clone, Copy, Debug, Default, PartialEq, Eq)]
 pub struct Tally {
@@ -300,9 +307,50 @@ pub struct Tally {
     pub bytes: u32,
 }
 
-// The library is lent the tally as three 32-bit fields, one after the other.
-const _: () =
-    assert!(size_of::<Tally>() == 3 * size_of::<u32>() && align_of::<Tally>() == align_of::<u32>());
+/// The tallies of a card's eight ports, lent to the calls of all its sinks.
+#[repr(C)]
+#[derive(Clone, Copy, Debug, Default, PartialEq, Eq)]
+pub struct Tallies {
+    /// The tallies in the order of the ports: that of port p is `port[p - 1]`.
+    pub port: [Tally; PORTS as usize],
+}
+
+/// The card's total: of each of the three numbers the sum over the eight ports, in 64 bits. A
+/// number that has stopped at its largest value counts with that value.
+#[repr(C)]
+#[derive(Clone, Copy, Debug, Default, PartialEq, Eq)]
+pub struct Total {
+    /// Frames taken.
+    pub frames: u64,
+    /// Frames that answered BADCHECK; a mended frame is none of them.
+    pub bad: u64,
+    /// Bytes handed out.
+    pub bytes: u64,
+}
+
+// The library is lent the tallies as 24 fields of 32 bits, one after the other.
+const _: () = assert!(
+    size_of::<Tallies>() == 24 * size_of::<u32>() && align_of::<Tallies>() == align_of::<u32>()
+);
+
+impl Tallies {
+    /// All 24 numbers at zero.
+    pub const fn new() -> Tallies {
+        Tallies { port: [Tally { frames: 0, bad: 0, bytes: 0 }; PORTS as usize] }
+    }
+
+    /// The tally of a port, 1 to 8; none of a port that is 0 or above 8.
+    pub fn of(&self, port: u32) -> Option<Tally> {
+        self.port.get(port.checked_sub(1)? as usize).copied()
+    }
+
+    /// The card's total. Nothing is cut: eight times 4,294,967,295 is 34,359,738,360.
+    pub fn total(&self) -> Total {
+        // SAFETY: the pointer is that of live tallies with the layout of odu0_tallies (above), and
+        // every number in them is allowed.
+        unsafe { ffi::odu0_card_total(self) }
+    }
+}
 
 /// What an accepted call of a sink answers.
 #[derive(Clone, Copy, Debug, PartialEq, Eq)]
@@ -335,18 +383,24 @@ impl Sink {
 
     /// Takes a frame: hands out, to the start of `out`, the client bytes at the places of the count
     /// known before, leaves the bytes after them as they were, follows the control word, which it
-    /// mends before where the settings say so and it can, and counts the frame in the tally.
-    /// Refusals: grid, window, frame, space, patterns.
+    /// mends before where the settings say so and it can, and counts the frame in the tally of the
+    /// port that it names, 1 to 8; the numbers of the other seven ports keep their content.
+    /// Refusals: grid, window, frame, space, port, patterns.
+    ///
+    /// Which sink is on which port is the caller's: several sinks may name one port, and a sink may
+    /// name another port in its next call. But for refusal 10 the port has no part in what is
+    /// handed out, in the answer or in the state.
     pub fn call(
         &mut self,
         settings: Settings,
         frame: &[u8],
         out: &mut [u8],
-        tally: &mut Tally,
+        port: u32,
+        tallies: &mut Tallies,
     ) -> Result<Taken, Refusal> {
-        // SAFETY: each pointer is that of a live slice and stands before its length, and `tally`
-        // has the layout of odu0_tally (above); `out` and `tally` are lent for writing, so none of
-        // them overlap.
+        // SAFETY: each pointer is that of a live slice and stands before its length, and `tallies`
+        // has the layout of odu0_tallies (above); `out` and `tallies` are lent for writing, so none
+        // of them overlap.
         let reply = unsafe {
             ffi::odu0_sink_call(
                 settings.into(),
@@ -355,7 +409,8 @@ impl Sink {
                 frame.len(),
                 out.as_mut_ptr(),
                 out.len(),
-                tally,
+                port,
+                tallies,
             )
         };
         *self = Sink::from(reply.state);

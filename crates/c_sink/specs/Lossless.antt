@@ -1,18 +1,20 @@
--- What crosses can be read back: no state, answer, mended bit or tally is lost on the way out.
+-- What crosses can be read back: no state, answer, mended bit or tallies are lost on the way out.
 -- Assumes nothing.
 use mathlib.Core.Path.{_≡_}
 use mathlib.Core.Bool.{Bool, not, cond}
 use mathlib.Core.List.{List}
 use Prim.Native.Nat.{ℕ}
 use lib.Dec.{eqb}
+use lib.ListN.{length}
 use Rattle.refusals.specs.Table.{Answer, accepted, refused}
 use Rattle.gmp_standing.specs.declared.Standing.{Standing}
 use Rattle.gmp_standing.specs.Standing.{Finding, finding, READ, TRACKED, PAIRED, BADCHECK, WAITING, OUTSIDE, standingMeaning}
-use Rattle.card_tally.specs.declared.Tally.{Tally}
+use Rattle.gmp_port.specs.Port.{ports}
+use Rattle.card_tally.specs.declared.Tallies.{Tallies}
 use Rattle.gmp_sink.specs.declared.SinkState.{SinkState}
 use Rattle.c_sink.specs.declared.SinkNumbers.{SinkNumbers}
 use Rattle.c_sink.specs.declared.SinkReply.{SinkReply}
-use Rattle.c_sink.specs.Numbers.{countFrom, stateFrom, stateNumbers, sinkReplyBy, tallyFrom, tallyNumbers}
+use Rattle.c_sink.specs.Numbers.{countFrom, stateFrom, stateNumbers, sinkReplyBy, talliesFrom, talliesNumbers}
 
 -- the name of a standing's number
 abbrev pub nameFrom : ℕ → List ℕ
@@ -38,4 +40,4 @@ pub record Lossless : Type 0 where
       → answerFrom (sinkReplyBy given (accepted (standingMeaning x)) handed b z) ≡ accepted (standingMeaning x)
   pub refusal : (given : SinkNumbers) (n handed : ℕ) (b : Bool) (z : SinkState) → answerFrom (sinkReplyBy given (refused n) handed b z) ≡ refused n
   pub mended : (given : SinkNumbers) (a : Answer Finding) (handed : ℕ) (b : Bool) (z : SinkState) → mendedFrom (sinkReplyBy given a handed b z) ≡ b
-  pub tally : (y : Tally) → tallyFrom (tallyNumbers y) ≡ y
+  pub tallies : (y : Tallies) → length (y .ports) ≡ ports → talliesFrom (talliesNumbers y) ≡ y

@@ -2,8 +2,8 @@
 -- flag, 0 for none, beside a number. Assumes nothing.
 use mathlib.Core.Path.{_≡_}
 use mathlib.Core.Bool.{Bool, cond}
-use mathlib.Core.List.{List, [], _∷_}
-use Prim.Native.Nat.{ℕ}
+use mathlib.Core.List.{List, [], _∷_, _++_}
+use Prim.Native.Nat.{ℕ, _+_}
 use lib.Dec.{eqb}
 use lib.ListN.{length, getD}
 use Rattle.gmp_settings.specs.declared.Settings.{Settings}
@@ -14,9 +14,11 @@ use Rattle.gmp_standing.specs.Standing.{Finding, standingNumber}
 use Rattle.gmp_control.specs.declared.Remembered.{Remembered}
 use Rattle.gmp_control.specs.declared.Remembered.the-variants.{Word, Nothing}
 use Rattle.card_tally.specs.declared.Tally.{Tally}
+use Rattle.card_tally.specs.declared.Tallies.{Tallies}
+use Rattle.card_tally.specs.Ports.{tallyOf}
 use Rattle.gmp_sink.specs.declared.SinkState.{SinkState}
 use Rattle.gmp_sink.specs.Sink.{sinkAnswer, sinkState, sinkMended, sinkHanded, sinkOut}
-use Rattle.card_sink.specs.Card.{tallyAfter}
+use Rattle.card_sink.specs.Card.{talliesAfter}
 use Rattle.c_sink.specs.declared.SinkNumbers.{SinkNumbers}
 use Rattle.c_sink.specs.declared.SinkReply.{SinkReply}
 
@@ -73,20 +75,30 @@ sinkReplyBy x (refused n) handed mended z =
     record { refusal = n; standing = 0; found = 0; count = 0; handed = handed; mended = flagOf mended; state = x }
 
 -- a sink call from the numbers x, over the lists of its buffers
-abbrev pub sinkReply : Settings → SinkNumbers → SinkState → List ℕ → List ℕ → SinkReply
-sinkReply s x z frame out =
-    sinkReplyBy x (sinkAnswer s z frame out) (length (sinkHanded s z frame out)) (sinkMended s frame out) (sinkState s z frame out)
+abbrev pub sinkReply : Settings → SinkNumbers → SinkState → List ℕ → List ℕ → ℕ → SinkReply
+sinkReply s x z frame out port =
+    sinkReplyBy x (sinkAnswer s z frame out port) (length (sinkHanded s z frame out port)) (sinkMended s frame out port) (sinkState s z frame out port)
 
--- the tally as three numbers in a row
-abbrev pub tallyFrom : List ℕ → Tally
-tallyFrom l = record { frames = getD l 0 0; bad = getD l 1 0; bytes = getD l 2 0 }
+-- a tally as three numbers in a row, from this place on
+abbrev pub tallyAt : List ℕ → ℕ → Tally
+tallyAt l i = record { frames = getD l i 0; bad = getD l (i + 1) 0; bytes = getD l (i + 2) 0 }
 
 abbrev pub tallyNumbers : Tally → List ℕ
 tallyNumbers y = y .frames ∷ y .bad ∷ y .bytes ∷ []
 
--- What the sink call promises: its reply, every byte of the output buffer, and the three numbers of
--- the tally.
-pub record SinkCallPromise (s : Settings) (x : SinkNumbers) (frame out tally : List ℕ) (r : SinkReply) (out-after tally-after : List ℕ) : Type 0 where
-  pub reply : r ≡ sinkReply s x (stateFrom x) frame out
-  pub out-buffer : out-after ≡ sinkOut s (stateFrom x) frame out
-  pub tally-numbers : tally-after ≡ tallyNumbers (tallyAfter s (stateFrom x) frame out (tallyFrom tally))
+-- the tallies as 24 numbers: those of port 1, of port 2, and so on
+abbrev pub talliesFrom : List ℕ → Tallies
+talliesFrom l =
+    record { ports = tallyAt l 0 ∷ tallyAt l 3 ∷ tallyAt l 6 ∷ tallyAt l 9 ∷ tallyAt l 12 ∷ tallyAt l 15 ∷ tallyAt l 18 ∷ tallyAt l 21 ∷ [] }
+
+abbrev pub talliesNumbers : Tallies → List ℕ
+talliesNumbers y =
+    tallyNumbers (tallyOf y 1) ++ tallyNumbers (tallyOf y 2) ++ tallyNumbers (tallyOf y 3) ++ tallyNumbers (tallyOf y 4)
+    ++ tallyNumbers (tallyOf y 5) ++ tallyNumbers (tallyOf y 6) ++ tallyNumbers (tallyOf y 7) ++ tallyNumbers (tallyOf y 8)
+
+-- What the sink call promises: its reply, every byte of the output buffer, and the 24 numbers of
+-- the tallies.
+pub record SinkCallPromise (s : Settings) (x : SinkNumbers) (frame out : List ℕ) (port : ℕ) (tallies : List ℕ) (r : SinkReply) (out-after tallies-after : List ℕ) : Type 0 where
+  pub reply : r ≡ sinkReply s x (stateFrom x) frame out port
+  pub out-buffer : out-after ≡ sinkOut s (stateFrom x) frame out port
+  pub tallies-numbers : tallies-after ≡ talliesNumbers (talliesAfter s (stateFrom x) frame out port (talliesFrom tallies))

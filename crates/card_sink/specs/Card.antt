@@ -1,5 +1,6 @@
--- The sink's call with the card's tally (01, "Sink"): "Only accepted sink calls change it." Assumes
--- nothing.
+-- The sink's call with the card's tallies (01, "Sink"): "Only accepted sink calls change it"; and
+-- 02, P2: "each sink call names its port. A call changes only its own port's three numbers."
+-- Assumes nothing.
 use mathlib.Core.Path.{_≡_}
 use mathlib.Core.Bool.{true, cond}
 use mathlib.Core.List.{List}
@@ -9,8 +10,8 @@ use Rattle.math.specs.Choice.{sameList}
 use Rattle.gmp_settings.specs.declared.Settings.{Settings}
 use Rattle.refusals.specs.Table.{Answer, accepted, refused}
 use Rattle.gmp_standing.specs.Standing.{Finding, BADCHECK}
-use Rattle.card_tally.specs.declared.Tally.{Tally}
-use Rattle.card_tally.specs.Tally.{added}
+use Rattle.card_tally.specs.declared.Tallies.{Tallies}
+use Rattle.card_tally.specs.Ports.{counted}
 use Rattle.gmp_sink.specs.declared.SinkState.{SinkState}
 use Rattle.gmp_sink.specs.declared.SinkResult.{SinkResult}
 use Rattle.gmp_sink.specs.Sink.{sinkAnswer, sinkMended, sinkHanded, SinkPromise}
@@ -19,22 +20,23 @@ use Rattle.gmp_sink.specs.Sink.{sinkAnswer, sinkMended, sinkHanded, SinkPromise
 abbrev pub badFrames : Finding → ℕ
 badFrames f = cond (sameList (f .name) BADCHECK) 1 0
 
--- the tally after a call with this answer that handed out so many bytes
-abbrev pub tallyBy : Answer Finding → ℕ → Tally → Tally
-tallyBy (accepted f) bytes y = added y 1 (badFrames f) bytes
-tallyBy (refused n) bytes y = y
+-- the tallies after a call of this port with this answer that handed out so many bytes
+abbrev pub talliesBy : Answer Finding → ℕ → ℕ → Tallies → Tallies
+talliesBy (accepted f) port bytes y = counted y port 1 (badFrames f) bytes
+talliesBy (refused n) port bytes y = y
 
-unfoldable pub tallyAfter : Settings → SinkState → List ℕ → List ℕ → Tally → Tally
-tallyAfter s z frame out y = tallyBy (sinkAnswer s z frame out) (length (sinkHanded s z frame out)) y
+unfoldable pub talliesAfter : Settings → SinkState → List ℕ → List ℕ → ℕ → Tallies → Tallies
+talliesAfter s z frame out port y = talliesBy (sinkAnswer s z frame out port) port (length (sinkHanded s z frame out port)) y
 
--- What a call with the tally promises: what the sink promises, and the tally.
-pub record CallPromise (s : Settings) (z : SinkState) (frame out : List ℕ) (y : Tally) (r : SinkResult) (after : List ℕ) (tally-after : Tally) : Type 0 where
-  pub sink : SinkPromise s z frame out r after
-  pub tally : tally-after ≡ tallyAfter s z frame out y
+-- What a call with the tallies promises: what the sink promises, and the tallies.
+pub record CallPromise (s : Settings) (z : SinkState) (frame out : List ℕ) (port : ℕ) (y : Tallies) (r : SinkResult) (after : List ℕ) (tallies-after : Tallies) : Type 0 where
+  pub sink : SinkPromise s z frame out port r after
+  pub tallies : tallies-after ≡ talliesAfter s z frame out port y
 
--- A call that mended a bit has another standing than BADCHECK, and "frames taken" is one more, but
--- not "BADCHECK frames" (02, P1).
+-- A call that mended a bit has another standing than BADCHECK, and its port's "frames taken" is one
+-- more, but not its "BADCHECK frames" (02, P1).
 pub record MendedIsGood : Type 0 where
-  pub standing : (s : Settings) (z : SinkState) (frame out : List ℕ) → sinkMended s frame out ≡ true → (f : Finding) × (sinkAnswer s z frame out ≡ accepted f) × (badFrames f ≡ 0)
-  pub tally : (s : Settings) (z : SinkState) (frame out : List ℕ) (y : Tally) → sinkMended s frame out ≡ true
-      → tallyAfter s z frame out y ≡ added y 1 0 (length (sinkHanded s z frame out))
+  pub standing : (s : Settings) (z : SinkState) (frame out : List ℕ) (port : ℕ) → sinkMended s frame out port ≡ true
+      → (f : Finding) × (sinkAnswer s z frame out port ≡ accepted f) × (badFrames f ≡ 0)
+  pub tallies : (s : Settings) (z : SinkState) (frame out : List ℕ) (port : ℕ) (y : Tallies) → sinkMended s frame out port ≡ true
+      → talliesAfter s z frame out port y ≡ counted y port 1 0 (length (sinkHanded s z frame out port))

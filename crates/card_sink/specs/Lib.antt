@@ -1,2 +1,2 @@
--- The sink's call with the card's tally. Assumes nothing.
+-- The sink's call with the card's tallies. Assumes nothing.
 pub mod Card

@@ -1,5 +1,5 @@
-// The sink's call with the card's tally.
-use card_tally::Tally;
+// The sink's call with the card's tallies.
+use card_tally::Tallies;
 use gmp_settings::Settings;
 use gmp_sink::SinkAnswer;
 use gmp_sink::SinkResult;
@@ -8,78 +8,83 @@ use gmp_standing::Standing;
 ghost use mathlib.Core.Path.{_≡_};
 ghost use Rattle.gmp_standing.specs.Standing.{standingMeaning};
 ghost use Rattle.gmp_sink.specs.Sink.{answerMeaning};
-ghost use Rattle.card_sink.specs.Card.{badFrames, tallyBy, CallPromise, MendedIsGood};
+ghost use Rattle.card_sink.specs.Card.{badFrames, talliesBy, CallPromise, MendedIsGood};
 
-// What a call returns, with the tally after it.
+// What a call returns, with the tallies after it.
 pub struct Counted {
     pub result: SinkResult,
-    pub tally: Tally,
+    pub tallies: Tallies,
 }
 
-// One call of the sink. The tally is changed where the caller keeps it, by an accepted call only.
+// One call of the sink of a port. The tallies are changed where the caller keeps them: by an
+// accepted call only, and then in the numbers of its own port only.
 pub fn sink_call(
     settings: Settings,
     state: SinkState,
     frame: &[u8],
     out: &mut [u8],
-    tally: &mut Tally,
+    port: u32,
+    tallies: &mut Tallies,
 ) -> SinkResult
-    ensures { λ r. ⌜ CallPromise settings state (now (frame .entry)) (now (out .entry)) (now (tally .entry)) r (now (out .exit)) (now (tally .exit)) ⌝ }
+    ensures { λ r. ⌜ CallPromise settings state (now (frame .entry)) (now (out .entry)) port (now (tallies .entry)) r (now (out .exit)) (now (tallies .exit)) ⌝ }
 {
-    let counted = count_call(settings, state, frame, out, *tally);
-    *tally = counted.tally;
+    let counted = count_call(settings, state, frame, out, port, *tallies);
+    *tallies = counted.tallies;
     counted.result
 }
 
-// The same for a caller that keeps its tally by value: it is lent to `sink_call` and taken back.
+// The same for a caller that keeps its tallies by value: they are lent to `sink_call` and taken
+// back.
 pub fn lend_call(
     settings: Settings,
     state: SinkState,
     frame: &[u8],
     out: &mut [u8],
-    tally: Tally,
+    port: u32,
+    tallies: Tallies,
 ) -> Counted
-    ensures { λ r. ⌜ CallPromise settings state (now (frame .entry)) (now (out .entry)) tally (r .result) (now (out .exit)) (r .tally) ⌝ }
+    ensures { λ r. ⌜ CallPromise settings state (now (frame .entry)) (now (out .entry)) port tallies (r .result) (now (out .exit)) (r .tallies) ⌝ }
 {
-    let mut kept = tally;
-    let result = sink_call(settings, state, frame, out, &mut kept);
+    let mut kept = tallies;
+    let result = sink_call(settings, state, frame, out, port, &mut kept);
     Counted {
         result: result,
-        tally: kept,
+        tallies: kept,
     }
 }
 
-// The call with the tally by value, over which `sink_call` stands.
+// The call with the tallies by value, over which `sink_call` stands.
 pub fn count_call(
     settings: Settings,
     state: SinkState,
     frame: &[u8],
     out: &mut [u8],
-    tally: Tally,
+    port: u32,
+    tallies: Tallies,
 ) -> Counted
-    ensures { λ r. ⌜ CallPromise settings state (now (frame .entry)) (now (out .entry)) tally (r .result) (now (out .exit)) (r .tally) ⌝ }
+    ensures { λ r. ⌜ CallPromise settings state (now (frame .entry)) (now (out .entry)) port tallies (r .result) (now (out .exit)) (r .tallies) ⌝ }
 {
-    let result = gmp_sink_call::take_frame(settings, state, frame, out);
+    let result = gmp_sink_call::take_frame(settings, state, frame, out, port);
     let answer = result.answer;
     Counted {
         result: result,
-        tally: count_answer(tally, answer, result.handed),
+        tallies: count_answer(tallies, port, answer, result.handed),
     }
 }
 
-// A mended frame is no BADCHECK frame, in its standing or in the tally.
+// A mended frame is no BADCHECK frame, in its standing or in the tallies.
 pub fn mended_is_good()
     ensures { λ _. ⌜ MendedIsGood ⌝ }
 {}
 
-// The tally after an answer: a refused call leaves it.
-fn count_answer(tally: Tally, answer: SinkAnswer, handed: u32) -> Tally
-    ensures { λ r. ⌜ r ≡ tallyBy (answerMeaning answer) handed tally ⌝ }
+// The tallies after an answer to a call of this port: a refused call leaves them.
+fn count_answer(tallies: Tallies, port: u32, answer: SinkAnswer, handed: u32) -> Tallies
+    ensures { λ r. ⌜ r ≡ talliesBy (answerMeaning answer) port handed tallies ⌝ }
 {
     let SinkAnswer::Done(standing) = answer else {
-        return tally;
+        return tallies;
     };
-    card_tally::count_frame(tally, bad_frames(standing), handed)
+    card_tally::count_frame(tallies, port, bad_frames(standing), handed)
 }
 
 // How many BADCHECK frames a frame with this standing is.

@@ -1,2 +1,3 @@
--- The card's tally. Assumes nothing.
+-- The card's tallies: that of a port, and those of all its ports. Assumes nothing.
 pub mod Tally
+pub mod Ports

@@ -1,5 +1,6 @@
--- The tally (01, "Sink"): "One tally for the whole card ..: frames taken, BADCHECK frames, bytes
--- handed out, 32 bits each, staying at the largest number." Assumes nothing.
+-- The tally of a port (01, "Sink"): ".. frames taken, BADCHECK frames, bytes handed out, 32 bits
+-- each, staying at the largest number." 01's "One tally for the whole card" is replaced by 02, P2:
+-- "The tally becomes eight" (Ports.antt). Assumes nothing.
 use mathlib.Core.Bool.{cond}
 use Prim.Native.Nat.{ℕ, _+_, _≤_}
 use lib.Dec.{leb}

@@ -1,9 +1,13 @@
-// The card's tally: frames taken, BADCHECK frames and bytes handed out, each staying at its largest
-// number.
+// The card's tallies, one for each port: frames taken, BADCHECK frames and bytes handed out, each
+// staying at its largest number; and the card's total.
 ghost use mathlib.Core.Path.{_≡_};
-ghost use Prim.Native.Nat.{_+_};
+ghost use mathlib.Core.Bool.{false};
+ghost use Prim.Native.Nat.{_+_, _-_, _<_};
+ghost use Rattle.gmp_port.specs.Port.{badPort};
 ghost use Rattle.card_tally.specs.Tally.{cut, added};
+ghost use Rattle.card_tally.specs.Ports.{newTallies, tallyOf, counted, totalOf, OwnPortOnly};
 
+// The tally of a port.
 #[repr(C)]
 pub struct Tally {
     pub frames: u32,
@@ -11,8 +15,98 @@ pub struct Tally {
     pub bytes: u32,
 }
 
-// The tally after one frame more, with so many BADCHECK frames and bytes.
-pub fn count_frame(tally: Tally, bad: u32, bytes: u32) -> Tally
+// The tallies of the card's eight ports, in the order of their numbers.
+pub struct Tallies {
+    pub ports: [Tally; 8],
+}
+
+// The card's total: the sum of the eight, for each of the three numbers.
+#[repr(C)]
+pub struct Total {
+    pub frames: u64,
+    pub bad: u64,
+    pub bytes: u64,
+}
+
+// A card on which nothing is tallied yet.
+pub fn new_tallies() -> Tallies
+    ensures { λ r. ⌜ r ≡ newTallies ⌝ }
+{
+    let tally = Tally {
+        frames: 0,
+        bad: 0,
+        bytes: 0,
+    };
+    Tallies { ports: [tally; 8] }
+}
+
+// The tally of a port, all zero where the card has no such port.
+pub fn tally_of(tallies: Tallies, port: u32) -> Tally
+    ensures { λ r. ⌜ r ≡ tallyOf tallies port ⌝ }
+{
+    if gmp_port::is_bad_port(port) {
+        return Tally {
+            frames: 0,
+            bad: 0,
+            bytes: 0,
+        };
+    }
+    let place = place_of(port);
+    tallies.ports[place]
+}
+
+// The tallies after one frame more of this port, with so many BADCHECK frames and bytes. A port
+// that the card does not have changes nothing.
+pub fn count_frame(tallies: Tallies, port: u32, bad: u32, bytes: u32) -> Tallies
+    ensures { λ r. ⌜ r ≡ counted tallies port 1 bad bytes ⌝ }
+{
+    if gmp_port::is_bad_port(port) {
+        return tallies;
+    }
+    let place = place_of(port);
+    let tally = tallies.ports[place];
+    let mut after = tallies;
+    after.ports[place] = add_frame(tally, bad, bytes);
+    after
+}
+
+// The card's total. Eight numbers of 32 bits add up to one of 64 without being cut.
+pub fn card_total(tallies: Tallies) -> Total
+    ensures { λ r. ⌜ r ≡ totalOf tallies ⌝ }
+{
+    let mut sum = Total {
+        frames: 0,
+        bad: 0,
+        bytes: 0,
+    };
+    let mut place = 0;
+    while place < 8 {
+        let tally = tallies.ports[place];
+        sum = Total {
+            frames: sum.frames + tally.frames as u64,
+            bad: sum.bad + tally.bad as u64,
+            bytes: sum.bytes + tally.bytes as u64,
+        };
+        place += 1;
+    }
+    sum
+}
+
+// A frame of one port changes the three numbers of that port only.
+pub fn own_port_only()
+    ensures { λ _. ⌜ OwnPortOnly ⌝ }
+{}
+
+// The place of a port among the eight, from 0.
+fn place_of(port: u32) -> usize
+    requires { ⌜ badPort port ≡ false ⌝ }
+    ensures { λ r. ⌜ (r ≡ port - 1) × (r < 8) ⌝ }
+{
+    port as usize - 1
+}
+
+// A port's tally after one frame more, with so many BADCHECK frames and bytes.
+fn add_frame(tally: Tally, bad: u32, bytes: u32) -> Tally
     ensures { λ r. ⌜ r ≡ added tally 1 bad bytes ⌝ }
 {
     Tally {

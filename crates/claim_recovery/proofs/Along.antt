@@ -142,7 +142,7 @@ module _ (s : Settings) (old : ℕ) (x : SourceStep) (z : SinkState) (y : SinkSt
   step-holds : sinkAfter y .count ≡ Known (countOf x)
   step-holds =
       ap (λ (q : SinkState). q .count)
-      (sink.state-accepted (y .call .settings) (y .state) (y .call .frame) (y .call .out) (told .taken)
+      (sink.state-accepted (y .call .settings) (y .state) (y .call .frame) (y .call .out) (y .call .port) (told .taken)
       ∙ ap (λ (u : Settings). followed u (y .state) y) (told .settings)
       ∙ ap (λ (q : SinkState). followed s q y) (told .from))
       ∙ step-count
@@ -151,7 +151,7 @@ module _ (s : Settings) (old : ℕ) (x : SourceStep) (z : SinkState) (y : SinkSt
   step-load =
       let a = knows s old x link in
       let n : length (loadOf x) ≡ old = a .client ∙ link .from in
-      sink.handed-accepted (y .call .settings) (y .state) (y .call .frame) (y .call .out) (told .taken)
+      sink.handed-accepted (y .call .settings) (y .state) (y .call .frame) (y .call .out) (y .call .port) (told .taken)
       ∙ ap (λ (u : Settings). handed u (y .state) (y .call .frame)) (told .settings)
       ∙ ap (λ (q : SinkState). handed s q (y .call .frame)) (told .from)
       ∙ sink.handed-known s z (y .call .frame) old (ap (inWindow s) held ∙ in-window-known s old (old-inside s old x link))
@@ -163,15 +163,15 @@ module _ (s : Settings) (old : ℕ) (x : SourceStep) (z : SinkState) (y : SinkSt
   step-delivers : Delivers x y
   step-delivers =
       record {
-        standing = sink.answer-accepted (y .call .settings) (y .state) (y .call .frame) (y .call .out) (told .taken)
+        standing = sink.answer-accepted (y .call .settings) (y .state) (y .call .frame) (y .call .out) (y .call .port) (told .taken)
             ∙ ap (λ (u : Settings). accepted (standingAfter u (y .state) (controlOf (u .k) (y .call .frame)))) (told .settings)
             ∙ ap (λ (q : SinkState). accepted (standingAfter s q (controlOf (s .k) (y .call .frame)))) (told .from)
             ∙ ap accepted step-standing
             ∙ ap (λ (b : Bool). accepted (finding (cond b READ TRACKED) (Known (countOf x)))) (sym (equal-is s old x link));
         load = step-load;
-        buffer = sink.out-accepted (y .call .settings) (y .state) (y .call .frame) (y .call .out) (told .taken)
+        buffer = sink.out-accepted (y .call .settings) (y .state) (y .call .frame) (y .call .out) (y .call .port) (told .taken)
             ∙ ap (λ (l : List ℕ). l ++ drop (length l) (y .call .out))
-            (sym (sink.handed-accepted (y .call .settings) (y .state) (y .call .frame) (y .call .out) (told .taken)) ∙ step-load);
+            (sym (sink.handed-accepted (y .call .settings) (y .state) (y .call .frame) (y .call .out) (y .call .port) (told .taken)) ∙ step-load);
       }
 
 -- the count of the last frame read
@@ -343,7 +343,7 @@ module _ (s : Settings) (on : s .mending ≡ true) (old : ℕ) (x : SourceStep) 
   good =
       let few = subst (λ (n : ℕ). n ≤ 1) (wrong-is s old x y link) (one .control) in
       let r = reading-by (wrongControlBits sent got) refl few in
-      let a = sink.accepted-knows (y .call .settings) (length (y .call .frame)) (length (y .call .out)) (told .taken) in
+      let a = sink.accepted-knows (y .call .settings) (length (y .call .frame)) (length (y .call .out)) (y .call .port) (told .taken) in
       let long = a .frame ∙ ap (λ (u : Settings). frameBytes (u .k)) (told .settings) ∙ sym (ap length (frame-is s old x link) ∙ source.length-of-written s (x .state) (countOf x) (loadOf x)) in
       record {
         goes =
@@ -351,7 +351,7 @@ module _ (s : Settings) (on : s .mending ≡ true) (old : ℕ) (x : SourceStep) 
               leads = ⊎-elim (λ bad. absurd (r .4 (sym (r .1) ∙ bad))) (λ same. same) (itself s old x y link (r .0) (r .1) (r .2));
               client = λ n. others-client (s .k) n (y .call .frame) (frameOf x) long (one .others);
             };
-        told = sink.mended-accepted (y .call .settings) (y .state) (y .call .frame) (y .call .out) (told .taken)
+        told = sink.mended-accepted (y .call .settings) (y .state) (y .call .frame) (y .call .out) (y .call .port) (told .taken)
             ∙ ap (λ (u : Settings). mendedIn u (controlOf (u .k) (y .call .frame))) (told .settings)
             ∙ sink.mended-read s z got (r .0) (r .1) ∙ r .3
             ∙ ap (λ (n : ℕ). not (eqb n 0)) (sym (wrong-is s old x y link));

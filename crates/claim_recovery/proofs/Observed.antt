@@ -10,12 +10,12 @@ use Rattle.gmp_refusal.specs.Refusal.{verdictNumber}
 use Rattle.gmp_standing.specs.Standing.{Finding}
 use Rattle.gmp_frame.specs.Frame.{controlOf}
 use Rattle.gmp_source.specs.declared.SourceState.{SourceState}
-use Rattle.card_tally.specs.declared.Tally.{Tally}
+use Rattle.card_tally.specs.declared.Tallies.{Tallies}
 use Rattle.gmp_sink.specs.declared.SinkState.{SinkState}
 use Rattle.gmp_sink.specs.Sink.{answerMeaning, sinkRefusal, sinkAnswer, standingAfter}
 use Rattle.claim_recovery.specs.Runs.{SourceStep, SinkStep, sourceTakes, sinkTakes, sourceSteps, sinkSteps, sinkEnd}
-use Rattle.claim_recovery.specs.Tallied.{tallyEnd}
-use Rattle.claim_recovery.specs.Observed.{SourceSeen, SinkSeen, SourcePassed, SinkPassed, TallyPassed, sourceCalls, sourceTaken, sinkCalls, sinkTaken, sinkMade, AsDefined}
+use Rattle.claim_recovery.specs.Tallied.{talliesEnd}
+use Rattle.claim_recovery.specs.Observed.{SourceSeen, SinkSeen, SourcePassed, SinkPassed, TalliesPassed, sourceCalls, sourceTaken, sinkCalls, sinkTaken, sinkMade, AsDefined}
 
 source-is : (z : SourceState) (seen : List SourceSeen) → SourcePassed z seen → sourceTaken seen ≡ sourceSteps z (sourceCalls seen)
 unfolding sourceSteps
@@ -37,7 +37,7 @@ unfolding sinkAnswer
 takes-is c =
     let d = c .step .call in
     ap accepts (c .kept .sink .answer)
-    ∙ accepts-cond (sinkTakes (c .step)) (sinkRefusal (d .settings) (length (d .frame)) (length (d .out)))
+    ∙ accepts-cond (sinkTakes (c .step)) (sinkRefusal (d .settings) (length (d .frame)) (length (d .out)) (d .port))
     (standingAfter (d .settings) (c .step .state) (controlOf (d .settings .k) (d .frame)))
 
 sink-is : (z : SinkState) (seen : List SinkSeen) (e : SinkState) → SinkPassed z seen e → sinkTaken seen ≡ sinkSteps z (sinkCalls seen)
@@ -58,13 +58,13 @@ end-is z (c ∷ cs) e h =
     ∙ ap (λ (q : SinkState). sinkEnd q (sinkCalls cs)) (c .kept .sink .state)
     ∙ ap (λ (q : SinkState). sinkEnd q (c .step .call ∷ sinkCalls cs)) (h .0)
 
-tally-is : (y : Tally) (seen : List SinkSeen) (t : Tally) → TallyPassed y seen t → t ≡ tallyEnd y (sinkMade seen)
-unfolding tallyEnd
-tally-is y [] t h = h
-tally-is y (c ∷ cs) t h =
-    tally-is (c .tally-after) cs t (h .1)
-    ∙ ap (λ (w : Tally). tallyEnd w (sinkMade cs)) (c .kept .tally)
-    ∙ ap (λ (w : Tally). tallyEnd w (c .step ∷ sinkMade cs)) (h .0)
+tallies-are : (y : Tallies) (seen : List SinkSeen) (t : Tallies) → TalliesPassed y seen t → t ≡ talliesEnd y (sinkMade seen)
+unfolding talliesEnd
+tallies-are y [] t h = h
+tallies-are y (c ∷ cs) t h =
+    tallies-are (c .tallies-after) cs t (h .1)
+    ∙ ap (λ (w : Tallies). talliesEnd w (sinkMade cs)) (c .kept .tallies)
+    ∙ ap (λ (w : Tallies). talliesEnd w (c .step ∷ sinkMade cs)) (h .0)
 
 pub as-defined : AsDefined
 as-defined =
@@ -72,8 +72,8 @@ as-defined =
       contracts =
           record {
             source-call = λ κs s z next client buffer r frame p. p;
-            count-call = λ κs s z frame buffer y r out p. p;
-            lend-call = λ κs s z frame buffer y r out p. p;
+            count-call = λ κs s z frame buffer port y r out p. p;
+            lend-call = λ κs s z frame buffer port y r out p. p;
           };
       source = source-is;
       refusal = λ x. x .kept .refusal;
@@ -84,5 +84,5 @@ as-defined =
       mended = λ c. c .kept .sink .mended;
       handed = λ c. c .kept .sink .handed-bytes;
       out = λ c. c .kept .sink .out-buffer;
-      tally = tally-is;
+      tallies = tallies-are;
     }

@@ -1,55 +1,107 @@
--- The tally over a list of sink calls is a sum. Assumes nothing.
-use mathlib.Core.Path.{_≡_, refl, sym, ap, _∙_, subst}
-use mathlib.Core.Bool.{Bool, true, false, cond}
-use mathlib.Core.List.{List, [], _∷_}
+-- The tallies over a list of sink calls are sums, port by port. Assumes nothing.
+use mathlib.Core.Path.{_≡_, refl, sym, ap, _∙_, subst, subst⁻¹}
+use mathlib.Core.Bool.{Bool, true, false, true≢false, cond, _&&_}
+use mathlib.Core.List.{List, [], _∷_, cons-ne-nil}
 use Prim.Native.Nat.{ℕ, suc, _+_}
 use native.Mathlib.Numerals.{one-add}
+use lib.Dec.{eqb}
 use lib.ListN.{length}
 use borrow.Author.Tests.{eqb-true, eqb-false}
 use Rattle.refusals.specs.Table.{Answer, accepted}
 use Rattle.gmp_standing.specs.Standing.{Finding}
 use Rattle.card_tally.specs.declared.Tally.{Tally}
+use Rattle.card_tally.specs.declared.Tallies.{Tallies}
 use Rattle.card_tally.specs.Tally.{added, Of32Bits}
+use Rattle.card_tally.specs.Ports.{tallyOf, counted, totalOf, OfCard}
 use Rattle.card_tally.proofs.Laws.{added-nothing, added-twice, added-32-bits}
-use Rattle.gmp_sink.proofs.Laws.{answer-accepted, answer-refused}
-use Rattle.card_sink.specs.Card.{tallyBy, tallyAfter}
+use Rattle.card_tally.proofs.Ports.{own-port-only, total-same}
+use Rattle.gmp_sink.proofs.Laws.{answer-accepted, answer-refused, accepted-port}
+use Rattle.card_sink.specs.Card.{talliesBy, talliesAfter}
 use Rattle.claim_recovery.specs.Runs.{SinkStep, sinkTakes, answerOf, handedOf}
-use Rattle.claim_recovery.specs.Tallied.{tallyEnd, takenOf, badIn, badFramesOf, bytesOf, TallySums}
+use Rattle.claim_recovery.specs.Tallied.{talliesEnd, countsOn, takenOn, badIn, badFramesOf, bytesOf, summed, TallySums}
 
 -- what these accepted calls add
 abbrev sumOf : Tally → List SinkStep → Tally
 sumOf y ys = added y (length ys) (badFramesOf ys) (bytesOf ys)
 
--- the tally after one call
-abbrev after : SinkStep → Tally → Tally
-after x y = tallyAfter (x .call .settings) (x .state) (x .call .frame) (x .call .out) y
+-- the tallies after one call
+abbrev after : SinkStep → Tallies → Tallies
+after x y = talliesAfter (x .call .settings) (x .state) (x .call .frame) (x .call .out) (x .call .port) y
 
-after-accepted : (x : SinkStep) (y : Tally) → sinkTakes x ≡ true → after x y ≡ added y 1 (badIn (answerOf x)) (length (handedOf x))
-unfolding tallyAfter
+after-accepted : (x : SinkStep) (y : Tallies) → sinkTakes x ≡ true → after x y ≡ counted y (x .call .port) 1 (badIn (answerOf x)) (length (handedOf x))
+unfolding talliesAfter
 after-accepted x y t =
-    let e = answer-accepted (x .call .settings) (x .state) (x .call .frame) (x .call .out) (eqb-true _ 0 t) in
-    ap (λ (a : Answer Finding). tallyBy a (length (handedOf x)) y) e ∙ ap (λ (a : Answer Finding). added y 1 (badIn a) (length (handedOf x))) (sym e)
+    let e = answer-accepted (x .call .settings) (x .state) (x .call .frame) (x .call .out) (x .call .port) (eqb-true _ 0 t) in
+    ap (λ (a : Answer Finding). talliesBy a (x .call .port) (length (handedOf x)) y) e
+    ∙ ap (λ (a : Answer Finding). counted y (x .call .port) 1 (badIn a) (length (handedOf x))) (sym e)
 
-after-refused : (x : SinkStep) (y : Tally) → sinkTakes x ≡ false → after x y ≡ y
-unfolding tallyAfter
+after-refused : (x : SinkStep) (y : Tallies) → sinkTakes x ≡ false → after x y ≡ y
+unfolding talliesAfter
 after-refused x y t =
-    ap (λ (a : Answer Finding). tallyBy a (length (handedOf x)) y) (answer-refused (x .call .settings) (x .state) (x .call .frame) (x .call .out) (eqb-false _ 0 t))
+    ap (λ (a : Answer Finding). talliesBy a (x .call .port) (length (handedOf x)) y)
+    (answer-refused (x .call .settings) (x .state) (x .call .frame) (x .call .out) (x .call .port) (eqb-false _ 0 t))
 
--- one call more in front
-one-more : (b : Bool) (x : SinkStep) (y : Tally) (rest : List SinkStep) → sinkTakes x ≡ b → sumOf (after x y) rest ≡ sumOf y (cond b (x ∷ rest) rest)
-unfolding badFramesOf bytesOf
-one-more true x y rest t =
-    ap (λ (w : Tally). sumOf w rest) (after-accepted x y t)
-    ∙ added-twice y 1 (badIn (answerOf x)) (length (handedOf x)) (length rest) (badFramesOf rest) (bytesOf rest)
-    ∙ ap (λ (n : ℕ). added y n (badIn (answerOf x) + badFramesOf rest) (length (handedOf x) + bytesOf rest)) (one-add (length rest))
-one-more false x y rest t = ap (λ (w : Tally). sumOf w rest) (after-refused x y t)
+-- The tally of port p after one call: one that was accepted and named the port adds to it, and any
+-- other leaves it.
+module _ (x : SinkStep) (y : Tallies) (p : ℕ) where
+  unchanged : (a b : Bool) → sinkTakes x ≡ a → eqb (x .call .port) p ≡ b → (a && b) ≡ false → tallyOf (after x y) p ≡ tallyOf y p
+  unchanged true true t n e = absurd (true≢false e)
+  unchanged true false t n e =
+      ap (λ (w : Tallies). tallyOf w p) (after-accepted x y t)
+      ∙ own-port-only .others y (x .call .port) p 1 (badIn (answerOf x)) (length (handedOf x)) (λ s. eqb-false (x .call .port) p n (sym s))
+  unchanged false b t n e = ap (λ (w : Tallies). tallyOf w p) (after-refused x y t)
 
-still-32-bits : (b : Bool) (x : SinkStep) (y : Tally) → sinkTakes x ≡ b → Of32Bits y → Of32Bits (after x y)
-still-32-bits true x y t h = subst Of32Bits (sym (after-accepted x y t)) (added-32-bits y 1 (badIn (answerOf x)) (length (handedOf x)))
-still-32-bits false x y t h = subst Of32Bits (sym (after-refused x y t)) h
+  changed : OfCard y → (a b : Bool) → sinkTakes x ≡ a → eqb (x .call .port) p ≡ b → (a && b) ≡ true
+      → tallyOf (after x y) p ≡ added (tallyOf y p) 1 (badIn (answerOf x)) (length (handedOf x))
+  changed c true true t n e =
+      let same : x .call .port ≡ p = eqb-true _ _ n in
+      let good = accepted-port (x .call .settings) (length (x .call .frame)) (length (x .call .out)) (x .call .port) (eqb-true _ 0 t) in
+      ap (λ (w : Tallies). tallyOf w p) (after-accepted x y t)
+      ∙ subst (λ (q : ℕ). tallyOf (counted y (x .call .port) 1 (badIn (answerOf x)) (length (handedOf x))) q ≡ added (tallyOf y q) 1 (badIn (answerOf x)) (length (handedOf x))) same
+      (own-port-only .own y (x .call .port) 1 (badIn (answerOf x)) (length (handedOf x)) (c .eight) good)
+  changed c true false t n e = absurd (true≢false (sym e))
+  changed c false b t n e = absurd (true≢false (sym e))
+
+  -- one call more in front
+  one-more : OfCard y → (rest : List SinkStep) (b : Bool) → countsOn p x ≡ b
+      → sumOf (tallyOf (after x y) p) rest ≡ sumOf (tallyOf y p) (cond b (x ∷ rest) rest)
+  unfolding badFramesOf bytesOf
+  one-more c rest true e =
+      ap (λ (w : Tally). sumOf w rest) (changed c _ _ refl refl e)
+      ∙ added-twice (tallyOf y p) 1 (badIn (answerOf x)) (length (handedOf x)) (length rest) (badFramesOf rest) (bytesOf rest)
+      ∙ ap (λ (n : ℕ). added (tallyOf y p) n (badIn (answerOf x) + badFramesOf rest) (length (handedOf x) + bytesOf rest)) (one-add (length rest))
+  one-more c rest false e = ap (λ (w : Tally). sumOf w rest) (unchanged _ _ refl refl e)
+
+  still-32-bits : OfCard y → (b : Bool) → countsOn p x ≡ b → Of32Bits (tallyOf (after x y) p)
+  still-32-bits c true e = subst⁻¹ Of32Bits (changed c _ _ refl refl e) (added-32-bits (tallyOf y p) 1 (badIn (answerOf x)) (length (handedOf x)))
+  still-32-bits c false e = subst⁻¹ Of32Bits (unchanged _ _ refl refl e) (c .each p)
+
+still-eight : (x : SinkStep) (y : Tallies) (b : Bool) → sinkTakes x ≡ b → length (after x y .ports) ≡ length (y .ports)
+still-eight x y true t = ap (λ (w : Tallies). length (w .ports)) (after-accepted x y t) ∙ own-port-only .as-many y (x .call .port) 1 (badIn (answerOf x)) (length (handedOf x))
+still-eight x y false t = ap (λ (w : Tallies). length (w .ports)) (after-refused x y t)
+
+still-of-card : (x : SinkStep) (y : Tallies) → OfCard y → OfCard (after x y)
+still-of-card x y c = record { eight = still-eight x y _ refl ∙ c .eight; each = λ p. still-32-bits x y p c _ refl }
+
+each-port : (y : Tallies) → OfCard y → (calls : List SinkStep) (p : ℕ) → tallyOf (talliesEnd y calls) p ≡ summed y calls p
+unfolding talliesEnd takenOn badFramesOf bytesOf
+each-port y c [] p = sym (added-nothing (tallyOf y p) (c .each p))
+each-port y c (x ∷ xs) p = each-port (after x y) (still-of-card x y c) xs p ∙ one-more x y p c (takenOn p xs) _ refl
+
+not-named-by : (x : SinkStep) (y : Tallies) (p : ℕ) (rest : List SinkStep) (end : Tally) (b : Bool) → countsOn p x ≡ b
+    → cond b (x ∷ rest) rest ≡ [] → (rest ≡ [] → end ≡ tallyOf (after x y) p) → end ≡ tallyOf y p
+not-named-by x y p rest end true t e later = absurd (cons-ne-nil _ _ e)
+not-named-by x y p rest end false t e later = later e ∙ unchanged x y p _ _ refl refl t
+
+not-named : (y : Tallies) (calls : List SinkStep) (p : ℕ) → takenOn p calls ≡ [] → tallyOf (talliesEnd y calls) p ≡ tallyOf y p
+unfolding talliesEnd takenOn
+not-named y [] p e = refl
+not-named y (x ∷ xs) p e = not-named-by x y p (takenOn p xs) (tallyOf (talliesEnd (after x y) xs) p) _ refl e (not-named (after x y) xs p)
 
 pub tally-sums : TallySums
-unfolding tallyEnd takenOf badFramesOf bytesOf
-tally-sums y h [] = sym (added-nothing y h)
-tally-sums y h (x ∷ xs) =
-    tally-sums (after x y) (still-32-bits (sinkTakes x) x y refl h) xs ∙ one-more (sinkTakes x) x y (takenOf xs) refl
+tally-sums =
+    record {
+      each-port = each-port;
+      not-named = λ y calls p none. not-named y calls p none;
+      total = λ y c calls. total-same (talliesEnd y calls) _ (each-port y c calls);
+    }

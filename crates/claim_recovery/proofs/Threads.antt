@@ -59,7 +59,7 @@ chain-drop s (suc k) old (x ∷ xs) h = chain-drop s k (x .call .next) xs (h .1)
 pub record Told (s : Settings) (z : SinkState) (y : SinkStep) : Type 0 where
   pub settings : y .call .settings ≡ s
   pub from : y .state ≡ z
-  pub taken : sinkRefusal (y .call .settings) (length (y .call .frame)) (length (y .call .out)) ≡ 0
+  pub taken : sinkRefusal (y .call .settings) (length (y .call .frame)) (length (y .call .out)) (y .call .port) ≡ 0
 
 -- the state after it
 abbrev pub followed : Settings → SinkState → SinkStep → SinkState
@@ -80,11 +80,11 @@ thread-by s y true rest e t sh later =
     let z = eqb-true _ 0 t in (
       record { settings = q; from = refl; taken = z },
       subst (λ (w : SinkState). Thread s w rest e)
-          (sink.state-accepted (y .call .settings) (y .state) (y .call .frame) (y .call .out) z ∙ ap (λ (u : Settings). followed u (y .state) y) q)
+          (sink.state-accepted (y .call .settings) (y .state) (y .call .frame) (y .call .out) (y .call .port) z ∙ ap (λ (u : Settings). followed u (y .state) y) q)
           (later (λ i x p. sh (suc i) x p)),
     )
 thread-by s y false rest e t sh later =
-    subst (λ (w : SinkState). Thread s w rest e) (sink.state-refused (y .call .settings) (y .state) (y .call .frame) (y .call .out) (eqb-false _ 0 t)) (later sh)
+    subst (λ (w : SinkState). Thread s w rest e) (sink.state-refused (y .call .settings) (y .state) (y .call .frame) (y .call .out) (y .call .port) (eqb-false _ 0 t)) (later sh)
 
 pub thread : (s : Settings) (z : SinkState) (calls : List SinkCall) → SharedSink s (sinkSteps z calls) → Thread s z (sinkSteps z calls) (sinkEnd z calls)
 unfolding sinkSteps sinkEnd

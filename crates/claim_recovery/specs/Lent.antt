@@ -1,4 +1,4 @@
--- The call that is lent the tally, `card_sink::sink_call`, is proved by a walk of its code, and the
+-- The call that is lent the tallies, `card_sink::sink_call`, is proved by a walk of its code, and the
 -- toolchain makes no reading of its contract. What its clause says of a call, of its result r and
 -- of what it left, e, is the promise that an observed call keeps. Assumes nothing.
 use mathlib.Core.Path.{_≡_, refl}
@@ -16,8 +16,8 @@ use Rattle.gmp_sink.specs.declared.SinkResult.{SinkResult}
 use Rattle.card_sink.specs.Card.{CallPromise}
 use Rattle.card_sink.proofs.sink_call as call
 
-pub lent-tally-promises : {M : Type 1} (𝓤 : URA M) (H : Heap 𝓤) (A : Atoms 𝓤) (mem : Memory → SProp 𝓤) (run : Routine → Fun 𝓤) (κs : Lfts 3)
+pub lent-tallies-promises : {M : Type 1} (𝓤 : URA M) (H : Heap 𝓤) (A : Atoms 𝓤) (mem : Memory → SProp 𝓤) (run : Routine → Fun 𝓤) (κs : Lfts 3)
     (a : Args call.signature κs) (r : SinkResult) (e : AtExit call.ended κs)
     → call.clauses 𝓤 H A mem run κs a .ensures tt r e
-    ≡ fact 𝓤 (CallPromise (a .0) (a .1 .0) (a .1 .1 .0 .now) (a .1 .1 .1 .0 .now) (a .1 .1 .1 .1 .0 .now) r (e .1 .1 .1 .0 .now) (e .1 .1 .1 .1 .0 .now))
-lent-tally-promises 𝓤 H A mem run κs a r e = refl
+    ≡ fact 𝓤 (CallPromise (a .0) (a .1 .0) (a .1 .1 .0 .now) (a .1 .1 .1 .0 .now) (a .1 .1 .1 .1 .0) (a .1 .1 .1 .1 .1 .0 .now) r (e .1 .1 .1 .0 .now) (e .1 .1 .1 .1 .1 .0 .now))
+lent-tallies-promises 𝓤 H A mem run κs a r e = refl

@@ -12,7 +12,7 @@ use denote.Ref.{RefT, at-last}
 use Rattle.refusals.specs.Table.{accepts}
 use Rattle.gmp_refusal.specs.Refusal.{verdictNumber}
 use Rattle.gmp_settings.specs.declared.Settings.{Settings}
-use Rattle.card_tally.specs.declared.Tally.{Tally}
+use Rattle.card_tally.specs.declared.Tallies.{Tallies}
 use Rattle.gmp_source.specs.declared.SourceState.{SourceState}
 use Rattle.gmp_source.specs.declared.SourceResult.{SourceResult}
 use Rattle.gmp_source.specs.Source.{SourcePromise}
@@ -25,7 +25,7 @@ use Rattle.card_sink.specs.Card.{CallPromise}
 use Rattle.card_sink.proofs.count_call.Reads as count-reading
 use Rattle.card_sink.proofs.lend_call.Reads as lend-reading
 use Rattle.claim_recovery.specs.Runs.{SourceCall, SinkCall, SourceStep, SinkStep, refusalOf, sourceSteps, sinkSteps, sinkEnd, frameOf, answerOf, mendedOf, handedOf, outOf}
-use Rattle.claim_recovery.specs.Tallied.{tallyEnd}
+use Rattle.claim_recovery.specs.Tallied.{talliesEnd}
 
 -- a call of the source: it returned the result, left the frame buffer so, and kept its promise
 pub record SourceSeen : Type 0 where
@@ -34,32 +34,32 @@ pub record SourceSeen : Type 0 where
   pub frame : List ℕ
   pub kept : SourcePromise (step .call .settings) (step .state) (step .call .next) (step .call .client) (step .call .buffer) result frame
 
--- A call of a sink with the tally y, be it of `sink_call`, which is lent the tally (Lent.antt), or
--- of `count_call` or `lend_call`, which have it by value: their promise is the same.
+-- A call of a sink with the card's tallies, be it of `sink_call`, which is lent them (Lent.antt), or
+-- of `count_call` or `lend_call`, which have them by value: their promise is the same.
 pub record SinkSeen : Type 0 where
   pub step : SinkStep
-  pub tally : Tally
+  pub tallies : Tallies
   pub result : SinkResult
   pub out : List ℕ
-  pub tally-after : Tally
-  pub kept : CallPromise (step .call .settings) (step .state) (step .call .frame) (step .call .out) tally result out tally-after
+  pub tallies-after : Tallies
+  pub kept : CallPromise (step .call .settings) (step .state) (step .call .frame) (step .call .out) (step .call .port) tallies result out tallies-after
 
 -- "Each call gets the state that the call before it in its list returned", the first one z,
 abbrev pub SourcePassed : SourceState → List SourceSeen → Type 0
 SourcePassed z [] = Unit {0}
 SourcePassed z (x ∷ xs) = (x .step .state ≡ z) × SourcePassed (x .result .state) xs
 
--- and the last call of a sink returned the state e. Its tally is free: it is the card's.
+-- and the last call of a sink returned the state e. The tallies are free: they are the card's.
 abbrev pub SinkPassed : SinkState → List SinkSeen → SinkState → Type 0
 SinkPassed z [] e = e ≡ z
 SinkPassed z (c ∷ cs) e = (c .step .state ≡ z) × SinkPassed (c .result .state) cs e
 
--- The card's tally goes through the calls of all its sinks, in the order in which they were made:
--- each call gets the tally that the call before it left, the first one y, and the last one left t.
--- Whose states they are given is free.
-abbrev pub TallyPassed : Tally → List SinkSeen → Tally → Type 0
-TallyPassed y [] t = t ≡ y
-TallyPassed y (c ∷ cs) t = (c .tally ≡ y) × TallyPassed (c .tally-after) cs t
+-- The card's tallies go through the calls of all its sinks, in the order in which they were made:
+-- each call gets the tallies that the call before it left, the first one y, and the last one left
+-- t. Whose states they are given and which ports they name is free.
+abbrev pub TalliesPassed : Tallies → List SinkSeen → Tallies → Type 0
+TalliesPassed y [] t = t ≡ y
+TalliesPassed y (c ∷ cs) t = (c .tallies ≡ y) × TalliesPassed (c .tallies-after) cs t
 
 -- the calls that were made, and those that no number turned back
 abbrev pub sourceCalls : List SourceSeen → List SourceCall
@@ -89,16 +89,16 @@ pub record ContractsPromise : Type 0 where
   pub source-call : (κs : Lfts 2) (s : Settings) (z : SourceState) (next : ℕ) (client buffer : RefT (List ℕ)) (r : SourceResult) (frame : List ℕ)
       → source-reading.Learnt κs (s, (z, (next, (client, (buffer, tt))))) r (s, (z, (next, (client, (at-last buffer frame, tt)))))
       → SourcePromise s z next (client .now) (buffer .now) r frame
-  pub count-call : (κs : Lfts 2) (s : Settings) (z : SinkState) (frame buffer : RefT (List ℕ)) (y : Tally) (r : Counted) (out : List ℕ)
-      → count-reading.Learnt κs (s, (z, (frame, (buffer, (y, tt))))) r (s, (z, (frame, (at-last buffer out, (y, tt)))))
-      → CallPromise s z (frame .now) (buffer .now) y (r .result) out (r .tally)
-  pub lend-call : (κs : Lfts 2) (s : Settings) (z : SinkState) (frame buffer : RefT (List ℕ)) (y : Tally) (r : Counted) (out : List ℕ)
-      → lend-reading.Learnt κs (s, (z, (frame, (buffer, (y, tt))))) r (s, (z, (frame, (at-last buffer out, (y, tt)))))
-      → CallPromise s z (frame .now) (buffer .now) y (r .result) out (r .tally)
+  pub count-call : (κs : Lfts 2) (s : Settings) (z : SinkState) (frame buffer : RefT (List ℕ)) (port : ℕ) (y : Tallies) (r : Counted) (out : List ℕ)
+      → count-reading.Learnt κs (s, (z, (frame, (buffer, (port, (y, tt)))))) r (s, (z, (frame, (at-last buffer out, (port, (y, tt))))))
+      → CallPromise s z (frame .now) (buffer .now) port y (r .result) out (r .tallies)
+  pub lend-call : (κs : Lfts 2) (s : Settings) (z : SinkState) (frame buffer : RefT (List ℕ)) (port : ℕ) (y : Tallies) (r : Counted) (out : List ℕ)
+      → lend-reading.Learnt κs (s, (z, (frame, (buffer, (port, (y, tt)))))) r (s, (z, (frame, (at-last buffer out, (port, (y, tt))))))
+      → CallPromise s z (frame .now) (buffer .now) port y (r .result) out (r .tallies)
 
 -- Calls that keep their promises go as the definitions go. The accepted calls of a run are its
 -- steps, each answers, says of mending and leaves in its buffer what the step does, and the last
--- state is that of the run. The tally after the calls of all sinks of a card is that of their
+-- state is that of the run. The tallies after the calls of all sinks of a card are those of their
 -- steps.
 pub record AsDefined : Type 0 where
   pub contracts : ContractsPromise
@@ -111,4 +111,4 @@ pub record AsDefined : Type 0 where
   pub mended : (c : SinkSeen) → c .result .mended ≡ mendedOf (c .step)
   pub handed : (c : SinkSeen) → c .result .handed ≡ length (handedOf (c .step))
   pub out : (c : SinkSeen) → c .out ≡ outOf (c .step)
-  pub tally : (y : Tally) (seen : List SinkSeen) (t : Tally) → TallyPassed y seen t → t ≡ tallyEnd y (sinkMade seen)
+  pub tallies : (y : Tallies) (seen : List SinkSeen) (t : Tallies) → TalliesPassed y seen t → t ≡ talliesEnd y (sinkMade seen)

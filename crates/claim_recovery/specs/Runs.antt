@@ -40,13 +40,14 @@ pub record SourceCall : Type 0 where
   pub client : List ℕ
   pub buffer : List ℕ
 
--- what the caller of a sink chooses: the settings, the frame that is lent, of bytes, and the output
--- buffer
+-- what the caller of a sink chooses: the settings, the frame that is lent, of bytes, the output
+-- buffer, and the port (02, P2: "each sink call names its port")
 pub record SinkCall : Type 0 where
   pub settings : Settings
   pub frame : List ℕ
   pub bytes : Bytes frame
   pub out : List ℕ
+  pub port : ℕ
 
 -- a call, and the state that it is given
 pub record SourceStep : Type 0 where
@@ -66,14 +67,14 @@ abbrev pub sourceTakes : SourceStep → Bool
 sourceTakes x = eqb (refusalOf x) 0
 
 abbrev pub sinkTakes : SinkStep → Bool
-sinkTakes y = eqb (sinkRefusal (y .call .settings) (length (y .call .frame)) (length (y .call .out))) 0
+sinkTakes y = eqb (sinkRefusal (y .call .settings) (length (y .call .frame)) (length (y .call .out)) (y .call .port)) 0
 
 -- the state that a call returns
 abbrev pub sourceAfter : SourceStep → SourceState
 sourceAfter x = sourceState (x .call .settings) (x .state) (x .call .next) (x .call .client) (x .call .buffer)
 
 abbrev pub sinkAfter : SinkStep → SinkState
-sinkAfter y = sinkState (y .call .settings) (y .state) (y .call .frame) (y .call .out)
+sinkAfter y = sinkState (y .call .settings) (y .state) (y .call .frame) (y .call .out) (y .call .port)
 
 -- the accepted calls of a source run from the state z, in order, each with the state that it was
 -- given
@@ -111,13 +112,13 @@ countOf x = x .call .next
 -- what an accepted sink call answers, whether it mended a bit (02, P1), the bytes that it hands
 -- out, and the output buffer after it
 abbrev pub answerOf : SinkStep → Answer Finding
-answerOf y = sinkAnswer (y .call .settings) (y .state) (y .call .frame) (y .call .out)
+answerOf y = sinkAnswer (y .call .settings) (y .state) (y .call .frame) (y .call .out) (y .call .port)
 
 abbrev pub mendedOf : SinkStep → Bool
-mendedOf y = sinkMended (y .call .settings) (y .call .frame) (y .call .out)
+mendedOf y = sinkMended (y .call .settings) (y .call .frame) (y .call .out) (y .call .port)
 
 abbrev pub handedOf : SinkStep → List ℕ
-handedOf y = sinkHanded (y .call .settings) (y .state) (y .call .frame) (y .call .out)
+handedOf y = sinkHanded (y .call .settings) (y .state) (y .call .frame) (y .call .out) (y .call .port)
 
 abbrev pub outOf : SinkStep → List ℕ
-outOf y = sinkOut (y .call .settings) (y .state) (y .call .frame) (y .call .out)
+outOf y = sinkOut (y .call .settings) (y .state) (y .call .frame) (y .call .out) (y .call .port)

@@ -53,5 +53,5 @@ customer-run =
       noisy-holds = refl;
       ours-answers = refl;
       source-told = refl;
-      sink-told = (refl, refl);
+      sink-told = (refl, refl, refl, refl);
     }

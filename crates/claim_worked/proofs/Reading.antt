@@ -23,11 +23,11 @@ use Rattle.claim_worked.specs.Readable.{Readable}
 use Rattle.claim_worked.proofs.Build.{All, reads-by}
 
 -- settings that a source call passed pass in a sink call
-sink-takes : (s : Settings) (z : SourceState) (next c b f o : ℕ) → sourceRefusal s z next c b ≡ 0 → f ≡ frameBytes (s .k) → s .hi ≤ o → sinkRefusal s f o ≡ 0
+sink-takes : (s : Settings) (z : SourceState) (next c b f o : ℕ) → sourceRefusal s z next c b ≡ 0 → f ≡ frameBytes (s .k) → s .hi ≤ o → sinkRefusal s f o 1 ≡ 0
 unfolding sourceRefusal sinkRefusal
 sink-takes s z next c b f o e l h =
     let a = accepted-knows s z next c b e in
-    own-lines-decide s (sinkReasons s f o) (all-passed s (sourceReasons s z next c b) e .0)
+    own-lines-decide s (sinkReasons s f o 1) (all-passed s (sourceReasons s z next c b) e .0)
     ∙ rw (eq-eqb f (frameBytes (s .k)) l, le-ltb o (s .hi) h, a .patterns)
 
 -- the calls that are lent the first j of these frames
@@ -40,7 +40,7 @@ room s = replicate (s .hi) 0
 abbrev reader : (s : Settings) (xs : List SourceStep) → FramesBytes xs → ℕ → List SinkCall
 reader s xs b zero = []
 reader s [] b (suc j) = []
-reader s (x ∷ xs) b (suc j) = record { settings = s; frame = frameOf x; bytes = b .0; out = room s } ∷ reader s xs (b .1) j
+reader s (x ∷ xs) b (suc j) = record { settings = s; frame = frameOf x; bytes = b .0; out = room s; port = 1 } ∷ reader s xs (b .1) j
 
 -- all of them are accepted
 pub record Taken (s : Settings) (xs : List SourceStep) (j : ℕ) (ys : List SinkStep) : Type 0 where
@@ -49,9 +49,9 @@ pub record Taken (s : Settings) (xs : List SourceStep) (j : ℕ) (ys : List Sink
   pub long : length ys ≡ j
 
 -- a sink with the settings of a source takes each of its frames
-taken : (s : Settings) (old : ℕ) (x : SourceStep) → Link s old x → sinkRefusal s (length (frameOf x)) (length (room s)) ≡ 0
+taken : (s : Settings) (old : ℕ) (x : SourceStep) → Link s old x → sinkRefusal s (length (frameOf x)) (length (room s)) 1 ≡ 0
 taken s old x link =
-    subst (λ (u : Settings). sinkRefusal u (length (frameOf x)) (length (room u)) ≡ 0) (link .settings)
+    subst (λ (u : Settings). sinkRefusal u (length (frameOf x)) (length (room u)) 1 ≡ 0) (link .settings)
     (sink-takes (x .call .settings) (x .state) (x .call .next) (length (x .call .client)) (length (x .call .buffer)) (length (frameOf x)) (length (room (x .call .settings)))
     (link .taken)
     (ap length (frame-accepted (x .call .settings) (x .state) (x .call .next) (x .call .client) (x .call .buffer) (link .taken))
@@ -63,7 +63,7 @@ unfolding sinkSteps
 all-taken s old xs b zero z c h = record { shared = tt; beside = tt; long = refl }
 all-taken s old [] b (suc j) z c h = absurd (omega arith)
 all-taken s old (x ∷ xs) b (suc j) z c h =
-    let y : SinkStep = record { call = record { settings = s; frame = frameOf x; bytes = b .0; out = room s }; state = z } in
+    let y : SinkStep = record { call = record { settings = s; frame = frameOf x; bytes = b .0; out = room s; port = 1 }; state = z } in
     let rest = sinkSteps (sinkAfter y) (reader s xs (b .1) j) in
     let ih = all-taken s (x .call .next) xs (b .1) j (sinkAfter y) (c .1) (le-of-suc-le-suc h) in
     subst (λ (d : Bool). Taken s (x ∷ xs) (suc j) (cond d (y ∷ rest) rest)) (sym (eq-eqb _ 0 (taken s old x (c .0))))

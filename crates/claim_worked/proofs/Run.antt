@@ -27,8 +27,12 @@ use Rattle.gmp_stuffing.specs.Places.{places, placed, tabulate, chosen}
 use Rattle.gmp_frame.specs.Frame.{row, frame, columns, payload, clientBytes, controlOf}
 use Rattle.gmp_source.specs.declared.SourceState.{SourceState}
 use Rattle.gmp_source.specs.Source.{startRefusal, newSource, sourceRefusal, controlBytes, written, sourceState, sourceFrame}
+use Rattle.card_tally.specs.Tally.{added}
+use Rattle.card_tally.specs.Ports.{counted, sumTo, totalOf}
+use Rattle.card_sink.specs.Card.{talliesAfter}
 use Rattle.gmp_sink.specs.Sink.{newSink, sinkRefusal, handed, standingAfter, stateAfter, sinkAnswer, sinkState, sinkHanded, sinkOut}
 use Rattle.claim_recovery.specs.Runs.{Nth, SourceCall, SinkCall, SourceStep, SinkStep, sourceSteps, sinkSteps, sinkEnd, countOf, answerOf}
+use Rattle.claim_recovery.specs.Tallied.{talliesEnd}
 use Rattle.claim_recovery.specs.Demand.{SourceRun, Reads, Unharmed, AtMostWrong, equalFrame, NoFalseCount}
 use Rattle.claim_worked.specs.Less.{HoldsAfter, DeliversAfter, NoLess}
 use Rattle.claim_worked.specs.Run.{small, source, calls, send, room, frame1, frame2, hear, fromFirst, lost, fromAny, noisy, WorkedRun}
@@ -46,7 +50,7 @@ run =
     }
 
 pub worked-run : WorkedRun
-unfolding sourceSteps sinkSteps sinkEnd sourceRefusal sourceState sourceFrame newSource startRefusal written controlBytes announced frame row tabulate placed places remainder divide reduce bits outside sinkRefusal sinkAnswer sinkState sinkHanded sinkOut handed standingAfter stateAfter controlOf foundBy reading inWindow usable tracked candidate paired equalIndicators passes readAs clientBytes chosen payload columns word differing xor tableOf
+unfolding sourceSteps sinkSteps sinkEnd sourceRefusal sourceState sourceFrame newSource startRefusal written controlBytes announced frame row tabulate placed places remainder divide reduce bits outside sinkRefusal sinkAnswer sinkState sinkHanded sinkOut handed standingAfter stateAfter controlOf foundBy reading inWindow usable tracked candidate paired equalIndicators passes readAs clientBytes chosen payload columns word differing xor tableOf talliesEnd talliesAfter counted added sumTo totalOf
 worked-run =
     record {
       source-run = run;
@@ -63,6 +67,9 @@ worked-run =
           (lit≤ tt, (lit≤ tt, (lit≤ tt, (lit≤ tt, tt)))) refl;
       noisy-answers = refl;
       noisy-holds = refl;
+      tallies = refl;
+      total = refl;
+      full-total = refl;
     }
 
 -- After one frame the new sink waits.

@@ -124,6 +124,6 @@ pub record CustomerRun : Type 0 where
   pub noisy-holds : sinkEnd newSink theirNoisy .count ≡ Known 4
   pub ours-answers : answers (sinkSteps newSink ours) ≡ silent WAITING ∷ silent WAITING ∷ silent WAITING ∷ silent WAITING ∷ []
   -- the numbers by which the calls with the crooked patterns are turned back, and by which they
-  -- would be with 7 bytes of output
+  -- would be with 7 bytes of output, on port 0, and with both
   pub source-told : sourceRefusal crooked (nextState (nextState begun 6) 5) 3 5 16 ≡ 14
-  pub sink-told : (sinkRefusal crooked 16 16 ≡ 14) × (sinkRefusal crooked 16 7 ≡ 9)
+  pub sink-told : (sinkRefusal crooked 16 16 1 ≡ 14) × (sinkRefusal crooked 16 7 1 ≡ 9) × (sinkRefusal crooked 16 16 0 ≡ 10) × (sinkRefusal crooked 16 7 0 ≡ 9)

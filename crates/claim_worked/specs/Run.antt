@@ -1,11 +1,13 @@
 -- A run on the grid K = 2 with the window 0 to 8: a source with steps of every size, read by a new
 -- sink, by a sink that knows a false count and a false word, and by a new sink over a hit; refused
--- calls stand in all. Assumes nothing.
+-- calls stand in all. The three share a card, each on a port of its own; the last one moves to
+-- another. Assumes nothing.
 use mathlib.Core.Path.{_≡_, refl, sym, subst}
 use mathlib.Core.Bool.{Bool, true, false, cond}
-use mathlib.Core.List.{List, [], _∷_}
+use mathlib.Core.List.{List, [], _∷_, _++_}
 use Prim.Native.Nat.{ℕ, _<_}
 use lib.Dec.{T, ltb, ltb→lt}
+use lib.ListN.{replicate}
 use Rattle.gmp_crc8.specs.Claims.{budget}
 use Rattle.gmp_settings.specs.declared.Settings.{Settings}
 use Rattle.gmp_settings.specs.Settings.{newSettings}
@@ -14,10 +16,16 @@ use Rattle.gmp_standing.specs.declared.Count.the-variants.{Known, Unknown}
 use Rattle.gmp_standing.specs.Standing.{Finding, finding, READ, TRACKED, PAIRED, BADCHECK, WAITING}
 use Rattle.gmp_control.specs.declared.Remembered.the-variants.{Word}
 use Rattle.gmp_source.specs.declared.SourceState.{SourceState}
+use Rattle.gmp_port.specs.Port.{ports}
+use Rattle.card_tally.specs.declared.Tally.{Tally}
+use Rattle.card_tally.specs.declared.Tallies.{Tallies}
+use Rattle.card_tally.specs.Tally.{largest}
+use Rattle.card_tally.specs.Ports.{noTally, newTallies, totalOf}
 use Rattle.gmp_sink.specs.declared.SinkState.{SinkState}
 use Rattle.gmp_sink.specs.Sink.{newSink}
-use Rattle.claim_recovery.specs.Runs.{Bytes, SourceCall, SinkCall, SourceStep, SinkStep, sourceSteps, sinkSteps, sinkEnd, frameOf, answerOf}
+use Rattle.claim_recovery.specs.Runs.{Bytes, SourceCall, SinkCall, SourceStep, SinkStep, sinkAfter, sourceSteps, sinkSteps, sinkEnd, frameOf, answerOf}
 use Rattle.claim_recovery.specs.Demand.{SourceRun, Reads, Unharmed, AtMostWrong}
+use Rattle.claim_recovery.specs.Tallied.{talliesEnd}
 
 -- a list of bytes, by a test
 abbrev pub areBytes : List ℕ → Bool
@@ -81,34 +89,41 @@ frame5 = 0 ∷ 0 ∷ 0 ∷ 0 ∷ 0 ∷ 12 ∷ 51 ∷ 0 ∷ 0 ∷ 92 ∷ 0 ∷ 52
 abbrev pub frame6 : List ℕ
 frame6 = 0 ∷ 0 ∷ 0 ∷ 0 ∷ 0 ∷ 31 ∷ 61 ∷ 0 ∷ 0 ∷ 155 ∷ 0 ∷ 62 ∷ 0 ∷ 0 ∷ 0 ∷ 63 ∷ []
 
-abbrev pub hear : Settings → (f : List ℕ) → T (areBytes f) → List ℕ → SinkCall
-hear s f h out = record { settings = s; frame = f; bytes = bytes f h; out = out }
+-- a call of a sink on port p, and on port 1
+abbrev pub hearOn : ℕ → Settings → (f : List ℕ) → T (areBytes f) → List ℕ → SinkCall
+hearOn p s f h out = record { settings = s; frame = f; bytes = bytes f h; out = out; port = p }
 
--- A new sink from frame 1 to 6, with refused calls: the grid, and 7 bytes of output where hi is 8.
+abbrev pub hear : Settings → (f : List ℕ) → T (areBytes f) → List ℕ → SinkCall
+hear = hearOn 1
+
+-- A new sink from frame 1 to 6, with refused calls: the grid, port 0, 7 bytes of output where hi is
+-- 8, and port 9.
 abbrev pub fromFirst : List SinkCall
 fromFirst =
     hear small frame1 tt room
     ∷ hear wrong frame1 tt room
+    ∷ hearOn 0 small frame1 tt room
     ∷ hear small frame2 tt room
     ∷ hear small frame1 tt (1 ∷ 2 ∷ 3 ∷ 4 ∷ 5 ∷ 6 ∷ 7 ∷ [])
     ∷ hear small frame3 tt room
     ∷ hear small frame4 tt room
+    ∷ hearOn 9 small frame5 tt room
     ∷ hear small frame5 tt room
     ∷ hear small frame6 tt room
     ∷ []
 
--- A sink with a false count and a false word from frame 2 to 6.
+-- A sink with a false count and a false word from frame 2 to 6, on port 5.
 abbrev pub lost : SinkState
 lost = record { count = Known 7; word = Word 21845 }
 
 abbrev pub fromAny : List SinkCall
 fromAny =
-    hear small frame2 tt room
-    ∷ hear small frame3 tt room
-    ∷ hear small [] tt room
-    ∷ hear small frame4 tt room
-    ∷ hear small frame5 tt room
-    ∷ hear small frame6 tt room
+    hearOn 5 small frame2 tt room
+    ∷ hearOn 5 small frame3 tt room
+    ∷ hearOn 5 small [] tt room
+    ∷ hearOn 5 small frame4 tt room
+    ∷ hearOn 5 small frame5 tt room
+    ∷ hearOn 5 small frame6 tt room
     ∷ []
 
 -- A hit: frame 3 with one wrong bit in each control byte, and frame 5 with nothing whole but its
@@ -119,15 +134,31 @@ hit3 = 0 ∷ 84 ∷ 0 ∷ 31 ∷ 0 ∷ 76 ∷ 32 ∷ 33 ∷ 0 ∷ 146 ∷ 0 ∷ 
 abbrev pub hit5 : List ℕ
 hit5 = 255 ∷ 0 ∷ 255 ∷ 255 ∷ 255 ∷ 12 ∷ 255 ∷ 255 ∷ 255 ∷ 92 ∷ 255 ∷ 255 ∷ 255 ∷ 255 ∷ 255 ∷ 255 ∷ []
 
--- A new sink from frame 2 to 5, over the hit.
+-- A new sink from frame 2 to 5, over the hit, on port 8 and at last on port 3.
 abbrev pub noisy : List SinkCall
 noisy =
-    hear small frame2 tt room
-    ∷ hear small hit3 tt room
-    ∷ hear wrong frame3 tt room
-    ∷ hear small frame4 tt room
-    ∷ hear small hit5 tt room
+    hearOn 8 small frame2 tt room
+    ∷ hearOn 8 small hit3 tt room
+    ∷ hearOn 8 wrong frame3 tt room
+    ∷ hearOn 8 small frame4 tt room
+    ∷ hearOn 3 small hit5 tt room
     ∷ []
+
+-- all calls of a sink from the state z, refused ones too, each with the state that it was given
+abbrev pub made : SinkState → List SinkCall → List SinkStep
+made z [] = []
+made z (c ∷ cs) = let y : SinkStep = record { call = c; state = z } in y ∷ made (sinkAfter y) cs
+
+-- the calls of the three on one card
+abbrev pub onCard : List SinkStep
+onCard = made newSink fromFirst ++ made lost fromAny ++ made newSink noisy
+
+abbrev pub tally : ℕ → ℕ → ℕ → Tally
+tally frames bad bytes = record { frames = frames; bad = bad; bytes = bytes }
+
+-- the largest numbers on every port
+abbrev pub fullCard : Tallies
+fullCard = record { ports = replicate ports (tally largest largest largest) }
 
 abbrev pub frames : List SourceStep → List (List ℕ)
 frames [] = []
@@ -156,3 +187,9 @@ pub record WorkedRun : Type 0 where
   pub noisy-reads : Reads small (sourceSteps source calls) (AtMostWrong (budget false) small) 2 5 newSink noisy
   pub noisy-answers : answers (sinkSteps newSink noisy) ≡ silent WAITING ∷ silent BADCHECK ∷ silent WAITING ∷ says READ 3 ∷ []
   pub noisy-holds : sinkEnd newSink noisy .count ≡ Known 3
+  -- each port has the frames, BADCHECK frames and bytes of its own accepted calls, and the total is
+  -- their sum; that of full tallies exceeds 32 bits
+  pub tallies : talliesEnd newTallies onCard
+      ≡ record { ports = tally 6 0 17 ∷ noTally ∷ tally 1 0 0 ∷ noTally ∷ tally 5 0 18 ∷ noTally ∷ noTally ∷ tally 3 1 0 ∷ [] }
+  pub total : totalOf (talliesEnd newTallies onCard) ≡ record { frames = 15; bad = 1; bytes = 35 }
+  pub full-total : totalOf fullCard ≡ record { frames = 34359738360; bad = 34359738360; bytes = 34359738360 }

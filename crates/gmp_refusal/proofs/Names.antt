@@ -6,7 +6,7 @@ use native.Mathlib.Omega.{arith}
 use lib.ListN.{replicate}
 use Rattle.math.specs.Names.{Named}
 use Rattle.gmp_refusal.specs.declared.Refusal.{Refusal}
-use Rattle.gmp_refusal.specs.declared.Refusal.the-variants.{Grid, Window, Divisor, Rate, State, Count, Client, Frame, Space, Patterns}
+use Rattle.gmp_refusal.specs.declared.Refusal.the-variants.{Grid, Window, Divisor, Rate, State, Count, Client, Frame, Space, Port, Patterns}
 use Rattle.gmp_refusal.specs.Refusal.{refusalPlace, refusalName}
 
 -- the names of the refusals in one text, each in 8 bytes, and their lengths
@@ -14,10 +14,11 @@ abbrev pub names : List ℕ
 names =
     refusalName Grid ++ replicate 4 32 ++ refusalName Window ++ replicate 2 32 ++ refusalName Divisor ++ replicate 1 32
     ++ refusalName Rate ++ replicate 4 32 ++ refusalName State ++ replicate 3 32 ++ refusalName Count ++ replicate 3 32
-    ++ refusalName Client ++ replicate 2 32 ++ refusalName Frame ++ replicate 3 32 ++ refusalName Space ++ replicate 3 32 ++ refusalName Patterns
+    ++ refusalName Client ++ replicate 2 32 ++ refusalName Frame ++ replicate 3 32 ++ refusalName Space ++ replicate 3 32
+    ++ refusalName Port ++ replicate 4 32 ++ refusalName Patterns
 
 abbrev pub nameLengths : List ℕ
-nameLengths = 4 ∷ 6 ∷ 7 ∷ 4 ∷ 5 ∷ 5 ∷ 6 ∷ 5 ∷ 5 ∷ 8 ∷ []
+nameLengths = 4 ∷ 6 ∷ 7 ∷ 4 ∷ 5 ∷ 5 ∷ 6 ∷ 5 ∷ 5 ∷ 4 ∷ 8 ∷ []
 
 by-place : (x : Refusal) → Named 8 names nameLengths (refusalName x) (refusalPlace x)
 by-place Grid = record { from-one = omega arith; to-last = omega arith; within = omega arith; content = refl }
@@ -29,6 +30,7 @@ by-place Count = record { from-one = omega arith; to-last = omega arith; within 
 by-place Client = record { from-one = omega arith; to-last = omega arith; within = omega arith; content = refl }
 by-place Frame = record { from-one = omega arith; to-last = omega arith; within = omega arith; content = refl }
 by-place Space = record { from-one = omega arith; to-last = omega arith; within = omega arith; content = refl }
+by-place Port = record { from-one = omega arith; to-last = omega arith; within = omega arith; content = refl }
 by-place Patterns = record { from-one = omega arith; to-last = omega arith; within = omega arith; content = refl }
 
 -- the name of a refusal stands at its place

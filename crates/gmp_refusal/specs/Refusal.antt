@@ -1,9 +1,9 @@
 -- The refusals of the mapper's calls (01, "Why a call is turned back"): "No." and "Word" of each;
--- and 02, P11: "Refused: 14 "patterns"". Assumes nothing.
+-- and 02, P2: "Refused: 10 "port"", and P11: "Refused: 14 "patterns"". Assumes nothing.
 use mathlib.Core.List.{List, [], _∷_}
 use Prim.Native.Nat.{ℕ}
 use Rattle.gmp_refusal.specs.declared.Refusal.{Refusal}
-use Rattle.gmp_refusal.specs.declared.Refusal.the-variants.{Grid, Window, Divisor, Rate, State, Count, Client, Frame, Space, Patterns}
+use Rattle.gmp_refusal.specs.declared.Refusal.the-variants.{Grid, Window, Divisor, Rate, State, Count, Client, Frame, Space, Port, Patterns}
 use Rattle.gmp_refusal.specs.declared.Verdict.{Verdict}
 use Rattle.gmp_refusal.specs.declared.Verdict.the-variants.{Accepted, Refused}
 
@@ -18,6 +18,7 @@ refusalNumber Count = 6
 refusalNumber Client = 7
 refusalNumber Frame = 8
 refusalNumber Space = 9
+refusalNumber Port = 10
 refusalNumber Patterns = 14
 
 -- the place of each in the order of the numbers
@@ -31,7 +32,8 @@ refusalPlace Count = 6
 refusalPlace Client = 7
 refusalPlace Frame = 8
 refusalPlace Space = 9
-refusalPlace Patterns = 10
+refusalPlace Port = 10
+refusalPlace Patterns = 11
 
 -- the paper's word of each refusal, in ASCII
 abbrev pub refusalName : Refusal → List ℕ
@@ -44,6 +46,7 @@ refusalName Count = 99 ∷ 111 ∷ 117 ∷ 110 ∷ 116 ∷ []
 refusalName Client = 99 ∷ 108 ∷ 105 ∷ 101 ∷ 110 ∷ 116 ∷ []
 refusalName Frame = 102 ∷ 114 ∷ 97 ∷ 109 ∷ 101 ∷ []
 refusalName Space = 115 ∷ 112 ∷ 97 ∷ 99 ∷ 101 ∷ []
+refusalName Port = 112 ∷ 111 ∷ 114 ∷ 116 ∷ []
 refusalName Patterns = 112 ∷ 97 ∷ 116 ∷ 116 ∷ 101 ∷ 114 ∷ 110 ∷ 115 ∷ []
 
 -- the number of a verdict; an accepted call has none of the paper's numbers, which begin at 1, and

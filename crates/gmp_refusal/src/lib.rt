@@ -3,7 +3,7 @@ ghost use mathlib.Core.Path.{_≡_};
 ghost use Rattle.refusals.specs.Table.{reason, withLine};
 ghost use Rattle.gmp_refusal.specs.Refusal.{refusalNumber, refusalPlace, verdictNumber};
 
-// Why a call is turned back, in the order of the paper's numbers: 1 to 9, and 14. No call of the
+// Why a call is turned back, in the order of the papers' numbers: 1 to 10, and 14. No call of the
 // mapper answers a number between.
 pub enum Refusal {
     Grid,
@@ -15,6 +15,7 @@ pub enum Refusal {
     Client,
     Frame,
     Space,
+    Port,
     Patterns,
 }
 
@@ -25,10 +26,10 @@ pub enum Verdict {
 }
 
 // The names of the refusals in the order of their numbers, each in 8 bytes, and their lengths.
-pub const NAMES: [u8; 80] =
-    *b"grid    window  divisor rate    state   count   client  frame   space   patterns";
+pub const NAMES: [u8; 88] =
+    *b"grid    window  divisor rate    state   count   client  frame   space   port    patterns";
 
-pub const NAME_LENGTHS: [usize; 10] = [4, 6, 7, 4, 5, 5, 6, 5, 5, 8];
+pub const NAME_LENGTHS: [usize; 11] = [4, 6, 7, 4, 5, 5, 6, 5, 5, 4, 8];
 
 // The verdict with one more line of the paper's table: a refusal so far stands, and an accepted
 // call is refused where the line's condition applies.
@@ -53,10 +54,10 @@ pub fn refusal_number(verdict: Verdict) -> u32
         return 0;
     };
     let place = refusal_place(refusal);
-    if place < 10 {
+    if place < 11 {
         return place;
     }
-    place + 4
+    place + 3
 }
 
 // The place of a refusal in the order of their numbers, from 1.
@@ -73,6 +74,7 @@ pub fn refusal_place(refusal: Refusal) -> u32
         Refusal::Client => 7,
         Refusal::Frame => 8,
         Refusal::Space => 9,
-        Refusal::Patterns => 10,
+        Refusal::Port => 10,
+        Refusal::Patterns => 11,
     }
 }

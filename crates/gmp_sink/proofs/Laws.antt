@@ -18,8 +18,9 @@ use Rattle.gmp_refusal.specs.declared.Refusal.{Refusal}
 use Rattle.gmp_settings.specs.Grid.{payloadBytes, frameBytes}
 use Rattle.refusals.specs.Table.{accepted, refused}
 use Rattle.gmp_refusal.specs.Refusal.{refusalNumber}
-use Rattle.gmp_settings.specs.Settings.{Fit, outside}
+use Rattle.gmp_settings.specs.Settings.{outside}
 use Rattle.gmp_settings.specs.Patterns.{badPatterns}
+use Rattle.gmp_port.specs.Port.{badPort}
 use Rattle.refusals.proofs.Laws.{none-applies}
 use Rattle.gmp_settings.proofs.Laws.{all-passed, settings-fit, inside-window}
 use Rattle.gmp_standing.specs.declared.Count.{Count}
@@ -39,23 +40,25 @@ use Rattle.gmp_frame.proofs.Laws.{length-client, taken-fits}
 use Rattle.gmp_sink.specs.declared.SinkState.{SinkState}
 use Rattle.gmp_sink.specs.declared.SinkAnswer.the-variants.{Done, Refused}
 use Rattle.gmp_sink.specs.declared.SinkResult.{SinkResult}
-use Rattle.gmp_sink.specs.Sink.{newSink, sinkReasons, sinkRefusal, handed, readingOf, standingBy, standingAfter, wordAfter, stateAfter, isMended, mendedIn, answerMeaning, sinkAnswer, sinkState, sinkMended, sinkHanded, sinkOut, SinkPromise, HandsOut, OffAsBefore}
+use Rattle.gmp_sink.specs.Sink.{newSink, sinkReasons, sinkRefusal, handed, readingOf, standingBy, standingAfter, wordAfter, stateAfter, isMended, mendedIn, answerMeaning, sinkAnswer, sinkState, sinkMended, sinkHanded, sinkOut, SinkPromise, Accepted, AcceptedPromise, HandsOut, OffAsBefore}
 
--- an accepted call
-pub record Accepted (s : Settings) (frameLength outLength : ℕ) : Type 0 where
-  pub fit : Fit s
-  pub frame : frameLength ≡ frameBytes (s .k)
-  pub space : s .hi ≤ outLength
-  pub patterns : badPatterns s ≡ false
-
-pub accepted-knows : (s : Settings) (f o : ℕ) → sinkRefusal s f o ≡ 0 → Accepted s f o
+-- a call that no number turns back, and its port
+accepted-all : (s : Settings) (f o p : ℕ) → sinkRefusal s f o p ≡ 0 → Accepted s f o × (badPort p ≡ false)
 unfolding sinkRefusal
-accepted-knows s f o e =
-    let all = all-passed s (sinkReasons s f o) e in
+accepted-all s f o p e =
+    let all = all-passed s (sinkReasons s f o p) e in
     let eight = none-applies 8 (not (eqb f (frameBytes (s .k)))) _ (lit< tt) (all .1) in
     let nine = none-applies 9 (ltb o (s .hi)) _ (lit< tt) (eight .1) in
-    let fourteen = none-applies 14 (badPatterns s) _ (lit< tt) (nine .1) in
-    record { fit = settings-fit s (all .0); frame = eqb-true _ _ (not-false _ (eight .0)); space = ltb-false _ _ (nine .0); patterns = fourteen .0 }
+    let ten = none-applies 10 (badPort p) _ (lit< tt) (nine .1) in
+    let fourteen = none-applies 14 (badPatterns s) _ (lit< tt) (ten .1) in
+    let knows : Accepted s f o = record { fit = settings-fit s (all .0); frame = eqb-true _ _ (not-false _ (eight .0)); space = ltb-false _ _ (nine .0); patterns = fourteen .0 } in
+    (knows, ten .0)
+
+pub accepted-knows : (s : Settings) (f o p : ℕ) → sinkRefusal s f o p ≡ 0 → Accepted s f o
+accepted-knows s f o p e = accepted-all s f o p e .0
+
+pub accepted-port : (s : Settings) (f o p : ℕ) → sinkRefusal s f o p ≡ 0 → badPort p ≡ false
+accepted-port s f o p e = accepted-all s f o p e .1
 
 -- a count that counts is at most hi
 pub known-le : (s : Settings) (c : Count) (n : ℕ) → inWindow s c ≡ Known n → n ≤ s .hi
@@ -77,46 +80,46 @@ module _ (s : Settings) (z : SinkState) (frame : List ℕ) where
   unfolding handed
   handed-none e = rw e
 
-  module _ (out : List ℕ) where
+  module _ (out : List ℕ) (p : ℕ) where
     -- an accepted call
-    pub answer-accepted : sinkRefusal s (length frame) (length out) ≡ 0 → sinkAnswer s z frame out ≡ accepted (standingAfter s z (controlOf (s .k) frame))
+    pub answer-accepted : sinkRefusal s (length frame) (length out) p ≡ 0 → sinkAnswer s z frame out p ≡ accepted (standingAfter s z (controlOf (s .k) frame))
     unfolding sinkAnswer
     answer-accepted e = simp (eq-eqb _ _ e)
 
-    pub state-accepted : sinkRefusal s (length frame) (length out) ≡ 0 → sinkState s z frame out ≡ stateAfter s z (controlOf (s .k) frame)
+    pub state-accepted : sinkRefusal s (length frame) (length out) p ≡ 0 → sinkState s z frame out p ≡ stateAfter s z (controlOf (s .k) frame)
     unfolding sinkState
     state-accepted e = simp (eq-eqb _ _ e)
 
-    pub handed-accepted : sinkRefusal s (length frame) (length out) ≡ 0 → sinkHanded s z frame out ≡ handed s z frame
+    pub handed-accepted : sinkRefusal s (length frame) (length out) p ≡ 0 → sinkHanded s z frame out p ≡ handed s z frame
     unfolding sinkHanded
     handed-accepted e = simp (eq-eqb _ _ e)
 
-    pub out-accepted : sinkRefusal s (length frame) (length out) ≡ 0 → sinkOut s z frame out ≡ handed s z frame ++ drop (length (handed s z frame)) out
+    pub out-accepted : sinkRefusal s (length frame) (length out) p ≡ 0 → sinkOut s z frame out p ≡ handed s z frame ++ drop (length (handed s z frame)) out
     unfolding sinkOut
     out-accepted e = ap (λ (l : List ℕ). l ++ drop (length l) out) (handed-accepted e)
 
-    pub mended-accepted : sinkRefusal s (length frame) (length out) ≡ 0 → sinkMended s frame out ≡ mendedIn s (controlOf (s .k) frame)
+    pub mended-accepted : sinkRefusal s (length frame) (length out) p ≡ 0 → sinkMended s frame out p ≡ mendedIn s (controlOf (s .k) frame)
     unfolding sinkMended
     mended-accepted e = simp (eq-eqb _ _ e)
 
     -- a refused one
-    pub answer-refused : (sinkRefusal s (length frame) (length out) ≡ 0 → ⊥) → sinkAnswer s z frame out ≡ refused (sinkRefusal s (length frame) (length out))
+    pub answer-refused : (sinkRefusal s (length frame) (length out) p ≡ 0 → ⊥) → sinkAnswer s z frame out p ≡ refused (sinkRefusal s (length frame) (length out) p)
     unfolding sinkAnswer
     answer-refused h = simp (ne-eqb _ _ h)
 
-    pub state-refused : (sinkRefusal s (length frame) (length out) ≡ 0 → ⊥) → sinkState s z frame out ≡ z
+    pub state-refused : (sinkRefusal s (length frame) (length out) p ≡ 0 → ⊥) → sinkState s z frame out p ≡ z
     unfolding sinkState
     state-refused h = simp (ne-eqb _ _ h)
 
-    pub mended-refused : (sinkRefusal s (length frame) (length out) ≡ 0 → ⊥) → sinkMended s frame out ≡ false
+    pub mended-refused : (sinkRefusal s (length frame) (length out) p ≡ 0 → ⊥) → sinkMended s frame out p ≡ false
     unfolding sinkMended
     mended-refused h = simp (ne-eqb _ _ h)
 
-    pub handed-refused : (sinkRefusal s (length frame) (length out) ≡ 0 → ⊥) → sinkHanded s z frame out ≡ []
+    pub handed-refused : (sinkRefusal s (length frame) (length out) p ≡ 0 → ⊥) → sinkHanded s z frame out p ≡ []
     unfolding sinkHanded
     handed-refused h = simp (ne-eqb _ _ h)
 
-    pub out-refused : (sinkRefusal s (length frame) (length out) ≡ 0 → ⊥) → sinkOut s z frame out ≡ out
+    pub out-refused : (sinkRefusal s (length frame) (length out) p ≡ 0 → ⊥) → sinkOut s z frame out p ≡ out
     unfolding sinkOut
     out-refused h = ap (λ (l : List ℕ). l ++ drop (length l) out) (handed-refused h)
 
@@ -141,10 +144,9 @@ module _ (s : Settings) (z : SinkState) (c : Control) where
   count-after = refl
 
 -- what the code of `hand_out` comes to, where a count n is known
-pub hands-out : (s : Settings) (z : SinkState) (frame out : List ℕ) (n : ℕ) (after : List ℕ) → sinkRefusal s (length frame) (length out) ≡ 0
+pub hands-out : (s : Settings) (z : SinkState) (frame out : List ℕ) (n : ℕ) (after : List ℕ) → Accepted s (length frame) (length out)
     → inWindow s (z .count) ≡ Known n → after ≡ clientTaken (s .k) n frame out → HandsOut (handed s z frame) out n after
-hands-out s z frame out n after zero known e =
-    let a = accepted-knows s (length frame) (length out) zero in
+hands-out s z frame out n after a known e =
     let le = known-le s (z .count) n known in
     let fits : n ≤ payloadBytes (s .k) = omega (arith, a .fit .within) in
     let room : n ≤ length out = omega (arith, a .space) in
@@ -159,12 +161,24 @@ hands-out s z frame out n after zero known e =
 pub state-of-parts : (count : Count) (word : Remembered) (x : SinkState) → count ≡ x .count → word ≡ x .word → record { count = count; word = word } ≡ x
 state-of-parts count word x e f = ap₂ (λ (c : Count) (w : Remembered). record { count = c; word = w }) e f
 
+-- what a call that no number turns back promises is what the sink's call does
+pub promise-accepted : (s : Settings) (z : SinkState) (frame out : List ℕ) (p : ℕ) (r : SinkResult) (after : List ℕ)
+    → sinkRefusal s (length frame) (length out) p ≡ 0 → AcceptedPromise s z frame out r after → SinkPromise s z frame out p r after
+promise-accepted s z frame out p r after none a =
+    record {
+      answer = a .answer ∙ sym (answer-accepted s z frame out p none);
+      state = a .state ∙ sym (state-accepted s z frame out p none);
+      handed-bytes = a .handed-bytes ∙ sym (ap length (handed-accepted s z frame out p none));
+      mended = a .mended ∙ sym (mended-accepted s z frame out p none);
+      out-buffer = a .out-buffer ∙ sym (out-accepted s z frame out p none);
+    }
+
 -- A call that no number turns back is not refused, and its standing is what the control bytes lead
 -- to.
-module _ {s : Settings} {z : SinkState} {frame out : List ℕ} (none : sinkRefusal s (length frame) (length out) ≡ 0) {r : SinkResult} {after : List ℕ}
-    (p : SinkPromise s z frame out r after) where
+module _ {s : Settings} {z : SinkState} {frame out : List ℕ} {port : ℕ} (none : sinkRefusal s (length frame) (length out) port ≡ 0) {r : SinkResult}
+    {after : List ℕ} (p : SinkPromise s z frame out port r after) where
   answered : answerMeaning (r .answer) ≡ accepted (standingAfter s z (controlOf (s .k) frame))
-  answered = p .answer ∙ answer-accepted s z frame out none
+  answered = p .answer ∙ answer-accepted s z frame out port none
 
   pub never-refused : (x : Refusal) → r .answer ≡ Refused x → ⊥
   never-refused x e =
@@ -184,20 +198,20 @@ module _ (s : Settings) (z : SinkState) where
   other-by (Mended w) e = never-bad-check (tableOf s) s (z .count) (z .word) (wordBy (w .jc1) (w .jc2))
   other-by Bad e = absurd (true≢false (sym e))
 
-  module _ (frame out : List ℕ) (m : sinkMended s frame out ≡ true) where
-    mended-by : (b : Bool) → eqb (sinkRefusal s (length frame) (length out)) 0 ≡ b → sinkRefusal s (length frame) (length out) ≡ 0
+  module _ (frame out : List ℕ) (p : ℕ) (m : sinkMended s frame out p ≡ true) where
+    mended-by : (b : Bool) → eqb (sinkRefusal s (length frame) (length out) p) 0 ≡ b → sinkRefusal s (length frame) (length out) p ≡ 0
     mended-by true e = eqb-true _ 0 e
-    mended-by false e = absurd (true≢false (sym m ∙ mended-refused s z frame out (eqb-false _ 0 e)))
+    mended-by false e = absurd (true≢false (sym m ∙ mended-refused s z frame out p (eqb-false _ 0 e)))
 
-    pub mended-answers : (f : Finding) × (sinkAnswer s z frame out ≡ accepted f) × (sameList (f .name) BADCHECK ≡ false)
+    pub mended-answers : (f : Finding) × (sinkAnswer s z frame out p ≡ accepted f) × (sameList (f .name) BADCHECK ≡ false)
     mended-answers =
         let none = mended-by _ refl in
         let c = controlOf (s .k) frame in
         let r = readingOf s c in (
           standingAfter s z c,
-          answer-accepted s z frame out none,
+          answer-accepted s z frame out p none,
           ap (λ (f : Finding). sameList (f .name) BADCHECK) (standing-read s z c r refl)
-              ∙ other-by r (sym (mended-read s z c r refl) ∙ sym (mended-accepted s z frame out none) ∙ m),
+              ∙ other-by r (sym (mended-read s z c r refl) ∙ sym (mended-accepted s z frame out p none) ∙ m),
         )
 
 -- With mending off a reading goes by the check alone.

@@ -3,7 +3,7 @@
 use mathlib.Core.Path.{_≡_}
 use mathlib.Core.Bool.{Bool, true, false, not, cond}
 use mathlib.Core.List.{List, [], _∷_, _++_}
-use Prim.Native.Nat.{ℕ}
+use Prim.Native.Nat.{ℕ, _≤_}
 use lib.Dec.{eqb, ltb}
 use lib.ListN.{length, drop}
 use Rattle.gmp_crc8.specs.declared.ReadWord.{ReadWord}
@@ -15,8 +15,9 @@ use Rattle.gmp_settings.specs.declared.Settings.{Settings}
 use Rattle.gmp_settings.specs.Grid.{frameBytes}
 use Rattle.refusals.specs.Table.{Reason, reason, lowest, Answer, accepted, refused, answerBy}
 use Rattle.gmp_refusal.specs.Refusal.{refusalNumber}
-use Rattle.gmp_settings.specs.Settings.{settingsReasons}
+use Rattle.gmp_settings.specs.Settings.{Fit, settingsReasons}
 use Rattle.gmp_settings.specs.Patterns.{badPatterns}
+use Rattle.gmp_port.specs.Port.{badPort}
 use Rattle.gmp_standing.specs.declared.Count.{Count}
 use Rattle.gmp_standing.specs.declared.Count.the-variants.{Known, Unknown}
 use Rattle.gmp_standing.specs.Standing.{Finding, finding, BADCHECK, standingMeaning}
@@ -38,14 +39,15 @@ abbrev pub newSink : SinkState
 newSink = record { count = Unknown; word = Nothing }
 
 -- A call's own lines: 8, "frame buffer not exactly 4K + 8 bytes"; 9, "output buffer shorter than
--- hi"; and 14 (02, P11).
-abbrev pub sinkReasons : Settings → ℕ → ℕ → List Reason
-sinkReasons s frameLength outLength =
-    reason 8 (not (eqb frameLength (frameBytes (s .k)))) ∷ reason 9 (ltb outLength (s .hi)) ∷ reason 14 (badPatterns s) ∷ []
+-- hi"; 10, "a port that is 0 or above 8, after number 9" (02, P2: "each sink call names its port");
+-- and 14 (02, P11). The port has no part in a call but this.
+abbrev pub sinkReasons : Settings → ℕ → ℕ → ℕ → List Reason
+sinkReasons s frameLength outLength port =
+    reason 8 (not (eqb frameLength (frameBytes (s .k)))) ∷ reason 9 (ltb outLength (s .hi)) ∷ reason 10 (badPort port) ∷ reason 14 (badPatterns s) ∷ []
 
 -- why a call is turned back, or 0
-unfoldable pub sinkRefusal : Settings → ℕ → ℕ → ℕ
-sinkRefusal s frameLength outLength = lowest (settingsReasons s ++ sinkReasons s frameLength outLength)
+unfoldable pub sinkRefusal : Settings → ℕ → ℕ → ℕ → ℕ
+sinkRefusal s frameLength outLength port = lowest (settingsReasons s ++ sinkReasons s frameLength outLength port)
 
 -- "if a count is known, the client bytes at its places go to the start of the output buffer, else
 -- none"
@@ -106,35 +108,51 @@ answerMeaning (Done x) = accepted (standingMeaning x)
 answerMeaning (Refused r) = refused (refusalNumber r)
 
 -- the answer of a call
-unfoldable pub sinkAnswer : Settings → SinkState → List ℕ → List ℕ → Answer Finding
-sinkAnswer s z frame out = answerBy (sinkRefusal s (length frame) (length out)) (standingAfter s z (controlOf (s .k) frame))
+unfoldable pub sinkAnswer : Settings → SinkState → List ℕ → List ℕ → ℕ → Answer Finding
+sinkAnswer s z frame out port = answerBy (sinkRefusal s (length frame) (length out) port) (standingAfter s z (controlOf (s .k) frame))
 
 -- the state after a call: a refused call returns the state it was given
-unfoldable pub sinkState : Settings → SinkState → List ℕ → List ℕ → SinkState
-sinkState s z frame out = cond (eqb (sinkRefusal s (length frame) (length out)) 0) (stateAfter s z (controlOf (s .k) frame)) z
+unfoldable pub sinkState : Settings → SinkState → List ℕ → List ℕ → ℕ → SinkState
+sinkState s z frame out port = cond (eqb (sinkRefusal s (length frame) (length out) port) 0) (stateAfter s z (controlOf (s .k) frame)) z
 
 -- whether a call mended a bit: a refused one mends nothing
-unfoldable pub sinkMended : Settings → List ℕ → List ℕ → Bool
-sinkMended s frame out = cond (eqb (sinkRefusal s (length frame) (length out)) 0) (mendedIn s (controlOf (s .k) frame)) false
+unfoldable pub sinkMended : Settings → List ℕ → List ℕ → ℕ → Bool
+sinkMended s frame out port = cond (eqb (sinkRefusal s (length frame) (length out) port) 0) (mendedIn s (controlOf (s .k) frame)) false
 
 -- the bytes that a call hands out, and the output buffer after it: "bytes after them keep their
 -- content"
-unfoldable pub sinkHanded : Settings → SinkState → List ℕ → List ℕ → List ℕ
-sinkHanded s z frame out = cond (eqb (sinkRefusal s (length frame) (length out)) 0) (handed s z frame) []
+unfoldable pub sinkHanded : Settings → SinkState → List ℕ → List ℕ → ℕ → List ℕ
+sinkHanded s z frame out port = cond (eqb (sinkRefusal s (length frame) (length out) port) 0) (handed s z frame) []
 
-unfoldable pub sinkOut : Settings → SinkState → List ℕ → List ℕ → List ℕ
-sinkOut s z frame out = sinkHanded s z frame out ++ drop (length (sinkHanded s z frame out)) out
+unfoldable pub sinkOut : Settings → SinkState → List ℕ → List ℕ → ℕ → List ℕ
+sinkOut s z frame out port = sinkHanded s z frame out port ++ drop (length (sinkHanded s z frame out port)) out
 
 -- What a call promises: its answer, the new state, the number of bytes handed out, whether a bit
 -- was mended, and every byte of the output buffer.
-pub record SinkPromise (s : Settings) (z : SinkState) (frame out : List ℕ) (r : SinkResult) (after : List ℕ) : Type 0 where
-  pub answer : answerMeaning (r .answer) ≡ sinkAnswer s z frame out
-  pub state : r .state ≡ sinkState s z frame out
-  pub handed-bytes : r .handed ≡ length (sinkHanded s z frame out)
-  pub mended : r .mended ≡ sinkMended s frame out
-  pub out-buffer : after ≡ sinkOut s z frame out
+pub record SinkPromise (s : Settings) (z : SinkState) (frame out : List ℕ) (port : ℕ) (r : SinkResult) (after : List ℕ) : Type 0 where
+  pub answer : answerMeaning (r .answer) ≡ sinkAnswer s z frame out port
+  pub state : r .state ≡ sinkState s z frame out port
+  pub handed-bytes : r .handed ≡ length (sinkHanded s z frame out port)
+  pub mended : r .mended ≡ sinkMended s frame out port
+  pub out-buffer : after ≡ sinkOut s z frame out port
 
--- The parts of an accepted call: bytes handed out at the start of a buffer, with their number;
+-- What is known of a call that no number turns back. Its port is not among it: nothing that is done
+-- then looks at the port.
+pub record Accepted (s : Settings) (frameLength outLength : ℕ) : Type 0 where
+  pub fit : Fit s
+  pub frame : frameLength ≡ frameBytes (s .k)
+  pub space : s .hi ≤ outLength
+  pub patterns : badPatterns s ≡ false
+
+-- What such a call promises.
+pub record AcceptedPromise (s : Settings) (z : SinkState) (frame out : List ℕ) (r : SinkResult) (after : List ℕ) : Type 0 where
+  pub answer : answerMeaning (r .answer) ≡ accepted (standingAfter s z (controlOf (s .k) frame))
+  pub state : r .state ≡ stateAfter s z (controlOf (s .k) frame)
+  pub handed-bytes : r .handed ≡ length (handed s z frame)
+  pub mended : r .mended ≡ mendedIn s (controlOf (s .k) frame)
+  pub out-buffer : after ≡ handed s z frame ++ drop (length (handed s z frame)) out
+
+-- Its parts: bytes handed out at the start of a buffer, with their number;
 pub record HandsOut (bytes out : List ℕ) (r : ℕ) (after : List ℕ) : Type 0 where
   pub length-is : r ≡ length bytes
   pub buffer : after ≡ bytes ++ drop (length bytes) out

@@ -17,14 +17,20 @@ use gmp_standing::Standing;
 ghost use mathlib.Core.Path.{_≡_};
 ghost use lib.ListN.{length};
 ghost use Rattle.gmp_refusal.specs.Refusal.{verdictNumber};
-ghost use Rattle.gmp_sink.specs.Sink.{sinkRefusal, handed, HandsOut, HearsWord, ReadsControl, SinkPromise};
+ghost use Rattle.gmp_sink.specs.Sink.{sinkRefusal, handed, Accepted, AcceptedPromise, HandsOut, HearsWord, ReadsControl, SinkPromise};
 
-// Takes a frame. A refused call returns the state that it was given and leaves the output buffer as
-// it was.
-pub fn take_frame(settings: Settings, state: SinkState, frame: &[u8], out: &mut [u8]) -> SinkResult
-    ensures { λ r. ⌜ SinkPromise settings state (now (frame .entry)) (now (out .entry)) r (now (out .exit)) ⌝ }
+// Takes a frame of this port. A refused call returns the state that it was given and leaves the
+// output buffer as it was.
+pub fn take_frame(
+    settings: Settings,
+    state: SinkState,
+    frame: &[u8],
+    out: &mut [u8],
+    port: u32,
+) -> SinkResult
+    ensures { λ r. ⌜ SinkPromise settings state (now (frame .entry)) (now (out .entry)) port r (now (out .exit)) ⌝ }
 {
-    let verdict = judge_call(settings, frame.len(), out.len());
+    let verdict = judge_call(settings, frame.len(), out.len(), port);
     let Verdict::Refused(refusal) = verdict else {
         return take_accepted(settings, state, frame, out);
     };
@@ -36,11 +42,11 @@ pub fn take_frame(settings: Settings, state: SinkState, frame: &[u8], out: &mut 
     }
 }
 
-// The same where nothing is refused. The count that was known before the frame says which bytes are
-// handed out.
+// The same where nothing is refused, whatever the port. The count that was known before the frame
+// says which bytes are handed out.
 fn take_accepted(settings: Settings, state: SinkState, frame: &[u8], out: &mut [u8]) -> SinkResult
-    requires { ⌜ sinkRefusal settings (length (now frame)) (length (now out)) ≡ 0 ⌝ }
-    ensures { λ r. ⌜ SinkPromise settings state (now (frame .entry)) (now (out .entry)) r (now (out .exit)) ⌝ }
+    requires { ⌜ Accepted settings (length (now frame)) (length (now out)) ⌝ }
+    ensures { λ r. ⌜ AcceptedPromise settings state (now (frame .entry)) (now (out .entry)) r (now (out .exit)) ⌝ }
 {
     let control = gmp_frame::control_of(frame, settings.k);
     let heard = read_control(settings, state, control);
@@ -64,7 +70,7 @@ fn take_accepted(settings: Settings, state: SinkState, frame: &[u8], out: &mut [
 // Copies the client bytes at the places of a known count to the start of the output buffer, and
 // gives their number.
 fn hand_out(settings: Settings, state: SinkState, frame: &[u8], out: &mut [u8]) -> u32
-    requires { ⌜ sinkRefusal settings (length (now frame)) (length (now out)) ≡ 0 ⌝ }
+    requires { ⌜ Accepted settings (length (now frame)) (length (now out)) ⌝ }
     ensures { λ r. ⌜ HandsOut (handed settings state (now (frame .entry))) (now (out .entry)) r (now (out .exit)) ⌝ }
 {
     let count = state.count;
@@ -107,15 +113,17 @@ fn hear_word(settings: Settings, state: SinkState, word: ReadWord, mended: bool)
     }
 }
 
-// Numbers 1, 2, 8, 9 and 14, for a frame and an output buffer of these lengths.
-fn judge_call(settings: Settings, frame_length: usize, space: usize) -> Verdict
-    ensures { λ v. ⌜ verdictNumber v ≡ sinkRefusal settings «frame_length» space ⌝ }
+// Numbers 1, 2, 8, 9, 10 and 14, for a frame and an output buffer of these lengths and this port.
+fn judge_call(settings: Settings, frame_length: usize, space: usize, port: u32) -> Verdict
+    ensures { λ v. ⌜ verdictNumber v ≡ sinkRefusal settings «frame_length» space port ⌝ }
 {
     let fit = gmp_settings::judge(settings);
     let length = gmp_settings::frame_length(settings);
     let too_short = space < settings.hi as usize;
+    let bad_port = gmp_port::is_bad_port(port);
     let bad_patterns = gmp_settings::is_bad_patterns(settings);
     let frame = gmp_refusal::refuse_if(fit, frame_length != length, Refusal::Frame);
     let out = gmp_refusal::refuse_if(frame, too_short, Refusal::Space);
-    gmp_refusal::refuse_if(out, bad_patterns, Refusal::Patterns)
+    let named = gmp_refusal::refuse_if(out, bad_port, Refusal::Port);
+    gmp_refusal::refuse_if(named, bad_patterns, Refusal::Patterns)
 }

@@ -1,11 +1,11 @@
 -- A frame of 15,240 bytes is never refused at OPU0's size, and what the sink makes of it is what
 -- the program goes on with. Assumes nothing.
-use mathlib.Core.Path.{_≡_, sym, ap, ap₂, _∙_}
+use mathlib.Core.Path.{_≡_, refl, sym, ap, ap₂, _∙_}
 use mathlib.Core.Bool.{Bool}
 use mathlib.Core.List.{List, _++_}
 use Prim.Native.Nat.{ℕ}
 use native.Mathlib.Omega.{arith}
-use lib.ListN.{length, take, drop, length-append}
+use lib.ListN.{length, take, drop, set, length-append}
 use lib.Seq.{take-at}
 use Rattle.io.specs.Counts.{Counts}
 use Rattle.gmp_refusal.specs.declared.Refusal.{Refusal}
@@ -14,12 +14,16 @@ use Rattle.gmp_settings.specs.declared.Settings.{Settings}
 use Rattle.gmp_standing.specs.declared.Standing.{Standing}
 use Rattle.gmp_standing.specs.Standing.{Finding, standingMeaning, standingNumber}
 use Rattle.card_tally.specs.declared.Tally.{Tally}
+use Rattle.card_tally.specs.declared.Tallies.{Tallies}
+use Rattle.card_tally.specs.Tally.{added}
+use Rattle.card_tally.specs.Ports.{newTallies, tallyOf}
+use Rattle.card_tally.proofs.Ports.{own-port-only}
 use Rattle.gmp_sink.specs.declared.SinkState.{SinkState}
 use Rattle.gmp_sink.specs.declared.SinkAnswer.the-variants.{Done, Refused}
 use Rattle.gmp_sink.specs.declared.SinkResult.{SinkResult}
 use Rattle.gmp_sink.specs.Sink.{sinkRefusal}
 use Rattle.gmp_sink.proofs.Laws.{answer-accepted, state-accepted, mended-accepted, handed-accepted, out-accepted, never-refused, done-says}
-use Rattle.card_sink.specs.Card.{tallyBy, tallyAfter, CallPromise}
+use Rattle.card_sink.specs.Card.{badFrames, talliesBy, talliesAfter, CallPromise}
 use Rattle.odu0demap.specs.declared.Demapper.{Demapper}
 use Rattle.odu0demap.specs.Demapping.{settingsOf, standingOf, handedBytes, Takes}
 
@@ -40,33 +44,40 @@ module _ (mending : Bool) (d : Demapper) (frame out : List ℕ) (size : length f
   abbrev s : Settings
   s = settingsOf mending
 
-  none-refused : sinkRefusal s (length frame) (length out) ≡ 0
+  none-refused : sinkRefusal s (length frame) (length out) 1 ≡ 0
   unfolding sinkRefusal
   none-refused = rw (size, room)
 
-  tallied : tallyAfter s (d .state) frame out (d .tally) ≡ tallyBy (accepted (standingOf mending d frame)) (length (handedBytes mending d frame)) (d .tally)
-  unfolding tallyAfter
-  tallied =
-      ap₂ (λ (x : Answer Finding) (l : List ℕ). tallyBy x (length l) (d .tally)) (answer-accepted s (d .state) frame out none-refused)
-      (handed-accepted s (d .state) frame out none-refused)
+  -- a card with this tally on port 1
+  abbrev card : Tallies
+  card = record { ports = set (newTallies .ports) 0 (d .tally) }
 
-  module _ (r : SinkResult) (after : List ℕ) (tally : Tally) (p : CallPromise s (d .state) frame out (d .tally) r after tally) where
+  -- and what the frame makes of it
+  tallied : tallyOf (talliesAfter s (d .state) frame out 1 card) 1 ≡ added (d .tally) 1 (badFrames (standingOf mending d frame)) (length (handedBytes mending d frame))
+  unfolding talliesAfter
+  tallied =
+      ap₂ (λ (x : Answer Finding) (l : List ℕ). tallyOf (talliesBy x 1 (length l) card) 1) (answer-accepted s (d .state) frame out 1 none-refused)
+      (handed-accepted s (d .state) frame out 1 none-refused)
+      ∙ own-port-only .own card 1 1 (badFrames (standingOf mending d frame)) (length (handedBytes mending d frame)) refl refl
+
+  module _ (r : SinkResult) (after : List ℕ) (tallies : Tallies) (p : CallPromise s (d .state) frame out 1 card r after tallies) where
     pub not-refused : (x : Refusal) → r .answer ≡ Refused x → ⊥
     not-refused = never-refused none-refused (p .sink)
 
     pub takes : (x : Standing) → r .answer ≡ Done x → (w : ℕ) → w ≡ standingNumber (standingMeaning x .name)
+        → (tally : Tally) → tally ≡ tallyOf tallies 1
         → Takes mending d frame (record { handed = r .handed; standing = x; mended = r .mended; after = record { state = r .state; tally = tally; last = w } }) after
-    takes x e w f =
+    takes x e w f tally h =
         let told : standingMeaning x ≡ standingOf mending d frame = done-says none-refused (p .sink) x e in
-        let n : r .handed ≡ length (handedBytes mending d frame) = p .sink .handed-bytes ∙ ap length (handed-accepted s (d .state) frame out none-refused) in
+        let n : r .handed ≡ length (handedBytes mending d frame) = p .sink .handed-bytes ∙ ap length (handed-accepted s (d .state) frame out 1 none-refused) in
         let b =
         first-bytes (handedBytes mending d frame) (drop (length (handedBytes mending d frame)) out) after (r .handed)
-        (p .sink .out-buffer ∙ out-accepted s (d .state) frame out none-refused) n in
+        (p .sink .out-buffer ∙ out-accepted s (d .state) frame out 1 none-refused) n in
         record {
           standing = told;
-          mended = p .sink .mended ∙ mended-accepted s (d .state) frame out none-refused;
+          mended = p .sink .mended ∙ mended-accepted s (d .state) frame out 1 none-refused;
           after =
-              demapper-of-parts (p .sink .state ∙ state-accepted s (d .state) frame out none-refused) (p .tally ∙ tallied)
+              demapper-of-parts (p .sink .state ∙ state-accepted s (d .state) frame out 1 none-refused) (h ∙ ap (λ (y : Tallies). tallyOf y 1) (p .tallies) ∙ tallied)
               (f ∙ ap (λ (y : Finding). standingNumber (y .name)) told);
           length-is = n;
           within = b .0;

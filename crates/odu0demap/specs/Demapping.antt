@@ -1,5 +1,5 @@
--- What the program takes: the paper's sink with its tally, at OPU0's size, with mending or without.
--- Assumes nothing.
+-- What the program takes: the paper's sink with the tally of its port, at OPU0's size, with mending
+-- or without. Assumes nothing.
 use mathlib.Core.Path.{_≡_}
 use mathlib.Core.Bool.{Bool, true, false, cond, _&&_}
 use mathlib.Core.List.{List, foldl}

@@ -1,7 +1,7 @@
 // Takes OPU0 frames on standard input and hands out their client bytes on standard output. With the
 // argument "mend" one wrong control bit of a frame is mended. On standard error it writes a line
 // for the first frame's standing, for each change of it, in its name or in the count found, and for
-// each mended frame, and at the end the card's tally.
+// each mended frame, and at the end the tally. Its frames are those of one port, port 1.
 use card_tally::Tally;
 use gmp_sink::SinkAnswer;
 use gmp_sink::SinkState;
@@ -17,8 +17,7 @@ ghost use lib.ListN.{length};
 ghost use Rattle.gmp_standing.specs.Standing.{standingMeaning};
 ghost use Rattle.odu0demap.specs.Demapping.{isMend, newDemapper, sameCount, isSame, isSilent, Goes, GoesOn, DemapsAll, Takes};
 
-// The sink's state, the card's tally, and the number of the last standing, 0 before the first
-// frame.
+// The sink's state, its port's tally, and the number of the last standing, 0 before the first frame.
 struct Demapper {
     state: SinkState,
     tally: Tally,
@@ -172,16 +171,20 @@ fn take_frame(mending: bool, frame_number: u64, demapper: Demapper, frame: &[u8]
     Next::End
 }
 
-// Hands a frame to the sink and tallies it. With these settings and lengths no call is refused.
+// Hands a frame to the sink and tallies it, on port 1 of a card whose other ports are idle. With
+// these settings, lengths and port no call is refused.
 fn demap_frame(mending: bool, demapper: Demapper, frame: &[u8], out: &mut [u8]) -> Taken
     requires { ⌜ (length (now frame) ≡ 15240) × (length (now out) ≡ 14410) ⌝ }
     ensures { λ r. ⌜ Takes mending demapper (now (frame .entry)) r (now (out .exit)) ⌝ }
 {
     let settings = gmp_settings::with_mending(gmp_settings::opu0(), mending);
     let state = demapper.state;
-    let counted = card_sink::lend_call(settings, state, frame, out, demapper.tally);
+    let before = demapper.tally;
+    let mut card = card_tally::new_tallies();
+    card.ports[0] = before;
+    let counted = card_sink::lend_call(settings, state, frame, out, 1, card);
     let result = counted.result;
-    let tally = counted.tally;
+    let tally = card_tally::tally_of(counted.tallies, 1);
     let answer = result.answer;
     let after = result.state;
     let SinkAnswer::Done(standing) = answer else {

@@ -18,11 +18,11 @@ use Rattle.sinkshow.specs.Show.{small, Puts, Shows}
 use Rattle.sinkshow.proofs.Laws.{puts-append}
 
 module _ (n : Run) (frame out : List ℕ) (sixteen : length frame ≡ 16) (eight : length out ≡ 8) where
-  none-refused : sinkRefusal small (length frame) (length out) ≡ 0
+  none-refused : sinkRefusal small (length frame) (length out) 1 ≡ 0
   unfolding sinkRefusal
   none-refused = rw (sixteen, eight)
 
-  module _ (r : SinkResult) (after : List ℕ) (p : SinkPromise small (n .state) frame out r after) where
+  module _ (r : SinkResult) (after : List ℕ) (p : SinkPromise small (n .state) frame out 1 r after) where
     pub not-refused : (x : Refusal) → r .answer ≡ Refused x → ⊥
     not-refused = never-refused none-refused p
 
@@ -30,9 +30,9 @@ module _ (n : Run) (frame out : List ℕ) (sixteen : length frame ≡ 16) (eight
         → Puts line 0 (numbersText (n .frames + 1) (r .handed)) at mid → Puts mid at (standingText (standingMeaning standing)) m made
         → Shows n frame line (record { length = m; after = record { state = r .state; frames = n .frames + 1 } }) made
     shown standing e line mid made at m a b =
-        let h : r .handed ≡ length (handed small (n .state) frame) = p .handed-bytes ∙ ap length (handed-accepted small (n .state) frame out none-refused) in
+        let h : r .handed ≡ length (handed small (n .state) frame) = p .handed-bytes ∙ ap length (handed-accepted small (n .state) frame out 1 none-refused) in
         record {
           made = puts-append (rw h at a) (rw (done-says none-refused p standing e) at b);
           next =
-              ap (λ (z : SinkState). record { state = z; frames = n .frames + 1 }) (p .state ∙ state-accepted small (n .state) frame out none-refused);
+              ap (λ (z : SinkState). record { state = z; frames = n .frames + 1 }) (p .state ∙ state-accepted small (n .state) frame out 1 none-refused);
         }

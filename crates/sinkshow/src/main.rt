@@ -117,8 +117,8 @@ fn write_line(line: &[u8]) -> bool {
     program_stream::write_out(line, b"sinkshow: standard output")
 }
 
-// Hands a frame to the sink and makes its line. With 16 bytes, these settings and this output
-// buffer no call is refused.
+// Hands a frame to the sink, as one of port 1, and makes its line. With 16 bytes, these settings,
+// this output buffer and this port no call is refused.
 fn take_frame(run: Run, frame: &[u8], line: &mut [u8]) -> Shown
     requires { ⌜ (length (now frame) ≡ 16) × (72 ≤ length (now line)) × (run .frames < 18446744073709551615) ⌝ }
     ensures { λ r. ⌜ Shows run (now (frame .entry)) (now (line .entry)) r (now (line .exit)) ⌝ }
@@ -126,7 +126,7 @@ fn take_frame(run: Run, frame: &[u8], line: &mut [u8]) -> Shown
     let settings = gmp_settings::new_settings(2, 0, 8);
     let state = run.state;
     let mut out = [0u8; 8];
-    let result = gmp_sink_call::take_frame(settings, state, frame, &mut out);
+    let result = gmp_sink_call::take_frame(settings, state, frame, &mut out, 1);
     let answer = result.answer;
     let after = result.state;
     let SinkAnswer::Done(standing) = answer else {

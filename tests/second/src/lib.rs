@@ -3,9 +3,10 @@
 //! It is written from the scope paper and the change requests that have come (02), in the paper's
 //! own order and with no thought of speed: every place is tested by n × C mod S < C, the check is a
 //! long division bit by bit, a wrong control bit is looked for by turning each of the 24 over, the
-//! rule of given patterns is asked at each bit, and the sink is the paper's rules 1 to 3 one after
-//! the other. Where the paper is silent it goes by odu0.h: a multiframe number above 255 is taken
-//! modulo 256. Of a remembered word only the 16 bits that a word has are looked at.
+//! rule of given patterns is asked at each bit, the sink is the paper's rules 1 to 3 one after the
+//! other, and the card's tallies are worked out from a book of all accepted calls. Where the paper
+//! is silent it goes by odu0.h: a multiframe number above 255 is taken modulo 256. Of a remembered
+//! word only the 16 bits that a word has are looked at.
 
 mod random;
 
@@ -365,12 +366,69 @@ pub struct Taken {
     pub mended: bool,
 }
 
-/// The card's tally.
+/// The three numbers of a port.
 #[derive(Clone, Copy, Debug, Default, PartialEq, Eq)]
 pub struct Tally {
     pub frames: u32,
     pub bad: u32,
     pub bytes: u32,
+}
+
+/// A card has so many ports, numbered from 1 (02, P2).
+pub const PORTS: u32 = 8;
+
+/// The tallies of a card, kept as a book: the numbers that its ports began with, and an entry for
+/// each accepted call of a sink. A port's numbers are worked out when they are asked for.
+#[derive(Clone, Debug, Default, PartialEq, Eq)]
+pub struct Card {
+    began: [Tally; PORTS as usize],
+    entries: Vec<Entry>,
+}
+
+/// An accepted call: the port that it named, and what it is counted for.
+#[derive(Clone, Copy, Debug, PartialEq, Eq)]
+struct Entry {
+    port: u32,
+    bad: bool,
+    handed: u32,
+}
+
+impl Card {
+    pub fn new() -> Card {
+        Card::default()
+    }
+
+    /// A card whose ports began with these numbers.
+    pub fn with(began: [Tally; PORTS as usize]) -> Card {
+        Card { began, entries: Vec::new() }
+    }
+
+    /// The numbers of a port: what it began with and all its entries, or the largest number.
+    pub fn tally(&self, port: u32) -> Tally {
+        let began = self.began[port as usize - 1];
+        let own = || self.entries.iter().filter(|entry| entry.port == port);
+        let staying = |began: u32, more: u64| {
+            let sum = u64::from(began) + more;
+            u32::try_from(sum).unwrap_or(u32::MAX)
+        };
+        Tally {
+            frames: staying(began.frames, own().count() as u64),
+            bad: staying(began.bad, own().filter(|entry| entry.bad).count() as u64),
+            bytes: staying(began.bytes, own().map(|entry| u64::from(entry.handed)).sum()),
+        }
+    }
+
+    pub fn tallies(&self) -> [Tally; PORTS as usize] {
+        [1, 2, 3, 4, 5, 6, 7, 8].map(|port| self.tally(port))
+    }
+
+    /// The card's total: the sums of the ports' frames, of their BADCHECK frames and of their
+    /// bytes.
+    pub fn total(&self) -> [u128; 3] {
+        let numbers: [fn(&Tally) -> u32; 3] = [|of| of.frames, |of| of.bad, |of| of.bytes];
+        let tallies = self.tallies();
+        numbers.map(|number| tallies.iter().map(|tally| u128::from(number(tally))).sum())
+    }
 }
 
 /// A sink's state: a known count or none, a remembered word or none.
@@ -386,12 +444,13 @@ impl Sink {
     }
 
     /// Every refusal of a call, by its number.
-    pub fn refusals(&self, settings: Settings, frame: &[u8], out: &[u8]) -> Vec<u32> {
+    pub fn refusals(&self, settings: Settings, frame: &[u8], out: &[u8], port: u32) -> Vec<u32> {
         applying([
             (1, settings.grid_is_wrong()),
             (2, settings.window_is_wrong()),
             (8, frame.len() as u64 != settings.frame()),
             (9, (out.len() as u64) < u64::from(settings.hi)),
+            (10, (1..=PORTS).all(|right| port != right)),
             (14, settings.patterns_are_wrong()),
         ])
     }
@@ -401,9 +460,10 @@ impl Sink {
         settings: Settings,
         frame: &[u8],
         out: &mut [u8],
-        tally: &mut Tally,
+        port: u32,
+        card: &mut Card,
     ) -> Result<Taken, u32> {
-        turn_back(self.refusals(settings, frame, out))?;
+        turn_back(self.refusals(settings, frame, out, port))?;
 
         // A count outside the window counts as none, and so does a remembered word with II = DI.
         let known = self.count.filter(|count| settings.holds(*count));
@@ -455,10 +515,9 @@ impl Sink {
         }
         self.count = standing.count();
 
-        tally.frames = tally.frames.saturating_add(1);
-        tally.bad = tally.bad.saturating_add((standing == Standing::BadCheck).into());
-        tally.bytes = tally.bytes.saturating_add(handed as u32);
-        Ok(Taken { standing, handed: handed as u32, mended })
+        let handed = handed as u32;
+        card.entries.push(Entry { port, bad: standing == Standing::BadCheck, handed });
+        Ok(Taken { standing, handed, mended })
     }
 }
 
@@ -484,7 +543,7 @@ mod tests {
 
     fn taken(sink: &mut Sink, settings: Settings, control: [u8; 3]) -> Taken {
         let mut out = vec![0; settings.hi as usize];
-        sink.call(settings, &frame(settings, control), &mut out, &mut Tally::default()).unwrap()
+        sink.call(settings, &frame(settings, control), &mut out, 1, &mut Card::new()).unwrap()
     }
 
     fn standing(sink: &mut Sink, settings: Settings, control: [u8; 3]) -> Standing {
@@ -551,8 +610,9 @@ mod tests {
         assert_eq!(source.refusals(wrong, 14411, &client, &frame), [6, 14]);
         assert_eq!(keeper.refusals(wrong, 14407, 1), [14]);
         assert_eq!(keeper.refusals(wrong, 14411, 1), [4, 14]);
-        assert_eq!(Sink::new().refusals(wrong, &frame, &[0; 14410]), [14]);
-        assert_eq!(Sink::new().refusals(wrong, &frame, &[0; 14409]), [9, 14]);
+        assert_eq!(Sink::new().refusals(wrong, &frame, &[0; 14410], 8), [14]);
+        assert_eq!(Sink::new().refusals(wrong, &frame, &[0; 14410], 9), [10, 14]);
+        assert_eq!(Sink::new().refusals(wrong, &frame, &[0; 14409], 8), [9, 14]);
     }
 
     #[test]
@@ -597,6 +657,37 @@ mod tests {
         let control = [0x00, 0x10, 0xC0];
         assert_eq!(taken(&mut Sink::new(), small.with_mending(), control), answer);
         assert_eq!(standing(&mut Sink::new(), small, [0x00, 0x10, 0xD0]), Standing::Read(4));
+    }
+
+    /// Sinks on port 2, which begins at zeros, and on port 7, which begins near the largest number
+    /// and stops there. A call that is turned back is in no tally.
+    #[test]
+    fn worked_ports() {
+        let largest = u32::MAX;
+        let near = Tally { frames: largest - 2, bad: largest, bytes: largest - 2 };
+        let mut began = [Tally::default(); 8];
+        began[7 - 1] = near;
+        let mut card = Card::with(began);
+        let eight = Settings::new(2, 0, 8);
+        let mut call = |port: u32, count: u32, control: [u8; 3]| {
+            let mut sink = Sink { count: Some(count), word: None };
+            sink.call(eight, &frame(eight, control), &mut [0; 8], port, &mut card)
+                .map(|taken| taken.handed)
+        };
+        assert_eq!(call(2, 3, [0; 3]), Ok(3));
+        assert_eq!(call(7, 2, [0; 3]), Ok(2));
+        assert_eq!(call(0, 5, [0; 3]), Err(10));
+        assert_eq!(call(9, 5, [0; 3]), Err(10));
+        assert_eq!(call(2, 8, [0xFF; 3]), Ok(8));
+        assert_eq!(call(7, 1, [0xFF; 3]), Ok(1));
+        assert_eq!(call(7, 0, [0; 3]), Ok(0));
+        let mut wanted = [Tally::default(); 8];
+        wanted[2 - 1] = Tally { frames: 2, bad: 1, bytes: 11 };
+        wanted[7 - 1] = Tally { frames: largest, bad: largest, bytes: largest };
+        assert_eq!(card.tallies(), wanted);
+        let largest = u128::from(largest);
+        assert_eq!(card.total(), [largest + 2, largest + 1, largest + 11]);
+        assert_eq!(Card::with([wanted[7 - 1]; 8]).total(), [34_359_738_360; 3]);
     }
 
     #[test]

@@ -1,6 +1,6 @@
 //! The library against the second implementation: the answer, the state, every byte of every buffer
-//! and the tally of each call, and demand 3 watched on whole runs. `agree/both.rs` says how to run
-//! one case again.
+//! and the tallies of each call, and demand 3 watched on whole runs. `agree/both.rs` says how to
+//! run one case again.
 
 #[path = "agree/both.rs"]
 mod both;
@@ -18,6 +18,8 @@ mod mending;
 mod nearest;
 #[path = "agree/patterns.rs"]
 mod patterns;
+#[path = "agree/ports.rs"]
+mod ports;
 #[path = "agree/refusals.rs"]
 mod refusals;
 #[path = "agree/runs.rs"]

@@ -1,7 +1,10 @@
-//! The worked frames of the scope paper, the worked counts of 02's P7 and worked cases of its P1
-//! and P11, run against the library: those that are proved as well, and the others.
+//! The worked frames of the scope paper, the worked counts of 02's P7 and worked cases of its P1,
+//! P2 and P11, run against the library: those that are proved as well, and the others.
 
-use odu0::{Keeper, Patterns, Refusal, Settings, Sink, Source, Standing, Taken, Tally};
+use odu0::{
+    Keeper, Patterns, Refusal, Settings, Sink, Source, Standing, Taken, Tallies, Tally, Total,
+    PORTS,
+};
 
 const OPU0: Settings = Settings::OPU0;
 const WIDE: Settings = Settings::new(3808, 0, 15232);
@@ -34,7 +37,7 @@ fn taken(sink: &mut Sink, settings: Settings, control: [u8; 3]) -> Taken {
         frame[at] = byte;
     }
     let mut out = vec![0; settings.hi as usize];
-    sink.call(settings, &frame, &mut out, &mut Tally::default()).unwrap()
+    sink.call(settings, &frame, &mut out, 1, &mut Tallies::new()).unwrap()
 }
 
 /// What a sink says of such a frame, in which nothing is mended.
@@ -101,14 +104,14 @@ fn places_of_eight() {
 
         // A frame in which each payload byte is its own place.
         let by_place = [0, 0, 1, 2, 0, 0, 3, 4, 0, 0, 5, 6, 0, 0, 7, 8];
-        let (mut sink, mut tally) = (Sink { count: Some(count), word: None }, Tally::default());
+        let (mut sink, mut tallies) = (Sink { count: Some(count), word: None }, Tallies::new());
         let mut out = [0xEE; 9];
-        let taken = sink.call(EIGHT, &by_place, &mut out, &mut tally);
+        let taken = sink.call(EIGHT, &by_place, &mut out, 1, &mut tallies);
         let answer = Taken { standing: Standing::Read(0), handed: count, mended: false };
         assert_eq!(taken, Ok(answer));
         assert_eq!(out[..places.len()], *places);
         assert!(out[places.len()..].iter().all(|byte| *byte == 0xEE));
-        assert_eq!(tally, Tally { frames: 1, bad: 0, bytes: count });
+        assert_eq!(tallies.of(1), Some(Tally { frames: 1, bad: 0, bytes: count }));
     }
 }
 
@@ -213,12 +216,12 @@ fn the_standards_patterns_as_given_ones() {
 fn refused(settings: Settings) -> [Option<u32>; 4] {
     let mut source = Source { count: 14407, multiframe: 0, payload_type: 0 };
     let (client, mut frame, mut out) = (vec![0; 14407], vec![0; 15240], vec![0; 14410]);
-    let mut tally = Tally::default();
+    let mut tallies = Tallies::new();
     [
         Source::new(settings, 14407, 0).err(),
         source.call(settings, 14407, &client, &mut frame).err(),
         Keeper::new(1296).call(settings, 18671875, 1296).err(),
-        Sink::new().call(settings, &frame, &mut out, &mut tally).err(),
+        Sink::new().call(settings, &frame, &mut out, 8, &mut tallies).err(),
     ]
     .map(|refusal| refusal.map(Refusal::number))
 }
@@ -257,9 +260,9 @@ fn broken_patterns_are_judged_last() {
     let broken = opu0_with([0, 0, 1, 0]);
     assert_eq!(refused(broken), [Some(14); 4]);
     let mut source = Source { count: 14407, multiframe: 0, payload_type: 0 };
-    let (mut frame, mut out, mut tally) = (vec![0xEE; 15240], vec![0xEE; 14409], Tally::default());
+    let (mut frame, mut out, mut tallies) = (vec![0xEE; 15240], vec![0xEE; 14409], Tallies::new());
     let mut sink = Sink::new();
-    let refusal = sink.call(broken, &frame, &mut out, &mut tally).unwrap_err();
+    let refusal = sink.call(broken, &frame, &mut out, 0, &mut tallies).unwrap_err();
     assert_eq!((refusal.number(), refusal.name()), (9, "space"));
     let refusal = source.call(broken, 14411, &[0; 14407], &mut frame).unwrap_err();
     assert_eq!((refusal.number(), refusal.name()), (6, "count"));
@@ -267,13 +270,17 @@ fn broken_patterns_are_judged_last() {
     assert_eq!((refusal.number(), refusal.name()), (4, "rate"));
     assert_eq!(Source::new(broken, 14411, 0).unwrap_err().number(), 5);
 
-    // Alone it is the answer, and nothing is changed.
+    // The port comes before it and after the output buffer.
     out.push(0xEE);
-    let refusal = sink.call(broken, &frame, &mut out, &mut tally).unwrap_err();
+    let refusal = sink.call(broken, &frame, &mut out, 0, &mut tallies).unwrap_err();
+    assert_eq!((refusal.number(), refusal.name()), (10, "port"));
+
+    // Alone it is the answer, and nothing is changed.
+    let refusal = sink.call(broken, &frame, &mut out, 8, &mut tallies).unwrap_err();
     assert_eq!((refusal, refusal.number(), refusal.name()), (Refusal::Patterns, 14, "patterns"));
     assert_eq!(source.call(broken, 14407, &[0; 14407], &mut frame), Err(Refusal::Patterns));
     assert_eq!(source, Source { count: 14407, multiframe: 0, payload_type: 0 });
-    assert_eq!((sink, tally), (Sink::new(), Tally::default()));
+    assert_eq!((sink, tallies), (Sink::new(), Tallies::new()));
     assert!(frame.iter().chain(&out).all(|byte| *byte == 0xEE));
 }
 
@@ -322,7 +329,7 @@ fn the_largest_grid() {
         assert_eq!(source.call(settings, 14405, &client, &mut frame).err(), refusal);
         assert_eq!(Keeper::new(1296).call(settings, 18671875, 1296).err(), refusal);
         assert_eq!(
-            Sink::new().call(settings, &frame, &mut out, &mut Tally::default()).err(),
+            Sink::new().call(settings, &frame, &mut out, 1, &mut Tallies::new()).err(),
             refusal
         );
     }
@@ -332,25 +339,75 @@ fn the_largest_grid() {
 fn the_smallest_output_buffer() {
     for settings in [OPU0, WIDE, EIGHT] {
         let frame = vec![0; 4 * settings.k as usize + 8];
-        let (mut out, mut tally) = (vec![0; settings.hi as usize], Tally::default());
-        let mut call = |out: &mut [u8]| Sink::new().call(settings, &frame, out, &mut tally);
+        let (mut out, mut tallies) = (vec![0; settings.hi as usize], Tallies::new());
+        let mut call = |out: &mut [u8]| Sink::new().call(settings, &frame, out, 1, &mut tallies);
         assert!(call(&mut out).is_ok());
         assert_eq!(call(&mut out[1..]).err(), Some(Refusal::Space));
-        assert_eq!(tally.frames, 1);
+        assert_eq!(tallies.total().frames, 1);
     }
 }
 
 #[test]
 fn a_frame_one_byte_short() {
-    let (mut frame, mut out, mut tally) = (vec![0xEE; 15239], vec![0xEE; 14410], Tally::default());
-    let refusal = Sink::new().call(OPU0, &frame, &mut out, &mut tally).unwrap_err();
+    let (mut frame, mut out, mut tallies) = (vec![0xEE; 15239], vec![0xEE; 14410], Tallies::new());
+    let refusal = Sink::new().call(OPU0, &frame, &mut out, 1, &mut tallies).unwrap_err();
     assert_eq!((refusal, refusal.number(), refusal.name()), (Refusal::Frame, 8, "frame"));
     let mut source = Source::new(OPU0, 14407, 0x07).unwrap();
     let refusal = source.call(OPU0, 14407, &[0; 14407], &mut frame).unwrap_err();
     assert_eq!(refusal.number(), 8);
     assert_eq!(source, Source { count: 14407, multiframe: 0, payload_type: 0x07 });
     assert!(frame.iter().chain(&out).all(|byte| *byte == 0xEE));
-    assert_eq!(tally, Tally::default());
+    assert_eq!(tallies, Tallies::new());
+}
+
+/// Sinks on ports 1, 3 and 8 of a card, two of them on port 3: only a call's own port counts it.
+#[test]
+fn ports_of_a_card() {
+    let mut tallies = Tallies::new();
+    let mut wanted = Tallies::new();
+    // The port, the count that its sink knows, which is as many bytes, and JC1 to JC3.
+    let calls = [
+        (1, 3, [0; 3], (1, 0, 3)),
+        (3, 8, [0xFF; 3], (1, 1, 8)),
+        (8, 0, [0; 3], (1, 0, 0)),
+        (3, 5, [0; 3], (2, 1, 13)),
+        (3, 1, [0xFF; 3], (3, 2, 14)),
+    ];
+    for (port, count, [jc1, jc2, jc3], (frames, bad, bytes)) in calls {
+        let frame = [0, jc1, 1, 2, 0, jc2, 3, 4, 0, jc3, 5, 6, 0, 0, 7, 8];
+        let mut sink = Sink { count: Some(count), word: None };
+        sink.call(EIGHT, &frame, &mut [0; 8], port, &mut tallies).unwrap();
+        wanted.port[port as usize - 1] = Tally { frames, bad, bytes };
+        assert_eq!(tallies, wanted);
+    }
+    assert_eq!(tallies.total(), Total { frames: 5, bad: 2, bytes: 17 });
+    assert_eq!(tallies.of(3), Some(Tally { frames: 3, bad: 2, bytes: 14 }));
+    assert_eq!([0, 9, u32::MAX].map(|port| tallies.of(port)), [None; 3]);
+
+    // No card has a port 0 or 9.
+    for port in [0, PORTS + 1] {
+        let mut sink = Sink { count: Some(3), word: None };
+        let mut out = [0xEE; 8];
+        let refusal = sink.call(EIGHT, &[0; 16], &mut out, port, &mut tallies).unwrap_err();
+        assert_eq!((refusal, refusal.number(), refusal.name()), (Refusal::Port, 10, "port"));
+        assert_eq!((sink.count, out, tallies), (Some(3), [0xEE; 8], wanted));
+    }
+}
+
+/// A number stays at 4,294,967,295, and the total of eight such is not cut.
+#[test]
+fn the_largest_numbers_of_a_card() {
+    let most = u32::MAX;
+    let full = Tally { frames: most, bad: most, bytes: most };
+    let near = Tally { frames: most, bad: most - 1, bytes: most - 7 };
+    let mut tallies = Tallies { port: [full; 8] };
+    tallies.port[4 - 1] = near;
+    let mut sink = Sink { count: Some(8), word: None };
+    sink.call(EIGHT, &[0xFF; 16], &mut [0; 8], 4, &mut tallies).unwrap();
+    assert_eq!(tallies, Tallies { port: [full; 8] });
+    let eight = 34_359_738_360;
+    assert_eq!(tallies.total(), Total { frames: eight, bad: eight, bytes: eight });
+    assert_eq!((Tallies::new(), Tallies::new().total()), Default::default());
 }
 
 /// The frames of the program sinkshow.
@@ -358,14 +415,14 @@ fn a_frame_one_byte_short() {
 fn frames_of_sinkshow() {
     let first = [0, 0xAA, 0, 0, 0, 0xA6, 0x11, 0, 0, 0x0A, 0, 0x22, 0x07, 0, 0, 0x33];
     let second = [0, 0, 0, 0x44, 0, 0x10, 0, 0x55, 0, 0xD0, 0, 0x66, 0, 0, 0, 0x77];
-    let (mut sink, mut tally, mut out) = (Sink::new(), Tally::default(), [0; 8]);
-    let mut call = |frame: &[u8]| sink.call(EIGHT, frame, &mut out, &mut tally);
+    let (mut sink, mut tallies, mut out) = (Sink::new(), Tallies::new(), [0; 8]);
+    let mut call = |frame: &[u8]| sink.call(EIGHT, frame, &mut out, 1, &mut tallies);
     let answer = |standing, handed| Ok(Taken { standing, handed, mended: false });
     assert_eq!(call(&first), answer(Standing::Waiting, 0));
     assert_eq!(call(&second), answer(Standing::Read(4), 0));
     assert_eq!(call(&second), answer(Standing::Read(4), 4));
     assert_eq!(out, [0x44, 0x55, 0x66, 0x77, 0, 0, 0, 0]);
-    assert_eq!(tally, Tally { frames: 3, bad: 0, bytes: 4 });
+    assert_eq!(tallies.of(1), Some(Tally { frames: 3, bad: 0, bytes: 4 }));
 
     // A source writes them: the first with the count 3 and the payload type 07, then 4 and 4.
     let (mut source, mut frame) = (Source::new(EIGHT, 3, 0x07).unwrap(), [0xEE; 16]);
@@ -380,7 +437,8 @@ fn frames_of_sinkshow() {
 /// The paper's names for the refusals and the standings.
 #[test]
 fn names_and_numbers() {
-    let names = ["grid", "window", "divisor", "rate", "state", "count", "client", "frame", "space"];
+    let first = ["grid", "window", "divisor", "rate", "state"];
+    let names = first.into_iter().chain(["count", "client", "frame", "space", "port"]);
     let numbered: Vec<_> = (1..).zip(names).chain([(14, "patterns")]).collect();
     let all = Refusal::ALL.map(|refusal| (refusal.number(), refusal.name()));
     assert_eq!(all[..], numbered);

@@ -2,10 +2,10 @@
 use mathlib.Core.Path.{_∙_, ap, sym}
 use Prim.Native.Nat.{ℕ}
 use borrow.Author.Needs.{needs}
-use Rattle.card_tally.specs.Tally.{added}
+use Rattle.card_tally.specs.Ports.{counted}
 use Rattle.gmp_sink.specs.declared.SinkAnswer.{SinkAnswer}
 use Rattle.gmp_sink.specs.Sink.{answerMeaning}
-use Rattle.card_sink.specs.Card.{tallyBy}
+use Rattle.card_sink.specs.Card.{talliesBy}
 use Rattle.card_sink.proofs.count_answer.Statement.{statement}
 use Rattle.card_sink.proofs.count_answer.Tie as tie
 
@@ -28,8 +28,8 @@ returns-2 : tie.Need-returns-2
 returns-2 c =
     let g = c .before .before .before .before .before .args in
     c .count-frame .ensures
-    ∙ ap (λ (n : ℕ). added (g .tally) 1 n (g .handed)) (c .before .bad-frames .ensures)
-    ∙ ap (λ (a : SinkAnswer). tallyBy (answerMeaning a) (g .handed) (g .tally)) (sym (c .before .before .before .answer .given .1))
+    ∙ ap (λ (n : ℕ). counted (g .tallies) (g .port) 1 n (g .handed)) (c .before .bad-frames .ensures)
+    ∙ ap (λ (a : SinkAnswer). talliesBy (answerMeaning a) (g .port) (g .handed) (g .tallies)) (sym (c .before .before .before .answer .given .1))
 
 pub count-answer-spec : {M : Type 1} → statement M
 count-answer-spec =

@@ -5,7 +5,7 @@ use borrow.Author.Needs.{needs}
 use Rattle.refusals.specs.Table.{Answer}
 use Rattle.gmp_standing.specs.Standing.{Finding}
 use Rattle.gmp_sink.specs.Sink.{answerMeaning, sinkAnswer}
-use Rattle.card_sink.specs.Card.{tallyBy, tallyAfter}
+use Rattle.card_sink.specs.Card.{talliesBy, talliesAfter}
 use Rattle.card_sink.proofs.count_call.Statement.{statement}
 use Rattle.card_sink.proofs.count_call.Tie as tie
 
@@ -19,15 +19,15 @@ same-length : tie.Need-same-length
 same-length c = search needs
 
 returns : tie.Need-returns
-unfolding tallyAfter
+unfolding talliesAfter
 returns c =
     let g = c .before .before .before .before .before .before .before .args in
     let p = c .before .before .before .take-frame .ensures in
     record {
       sink = p;
-      tally = c .count-answer .ensures
-          ∙ ap (λ (a : Answer Finding). tallyBy a (c .before .before .before .take-frame .result .handed) (g .tally)) (p .answer)
-          ∙ ap (λ (n : ℕ). tallyBy (sinkAnswer (g .settings) (g .state) (g .frame .now) (g .out .now)) n (g .tally)) (p .handed-bytes);
+      tallies = c .count-answer .ensures
+          ∙ ap (λ (a : Answer Finding). talliesBy a (g .port) (c .before .before .before .take-frame .result .handed) (g .tallies)) (p .answer)
+          ∙ ap (λ (n : ℕ). talliesBy (sinkAnswer (g .settings) (g .state) (g .frame .now) (g .out .now) (g .port)) (g .port) n (g .tallies)) (p .handed-bytes);
     }
 
 pub count-call-spec : {M : Type 1} → statement M

@@ -7,27 +7,27 @@ use lib.ListN.{length}
 use Rattle.refusals.specs.Table.{Answer, accepted}
 use Rattle.gmp_settings.specs.declared.Settings.{Settings}
 use Rattle.gmp_standing.specs.Standing.{Finding}
-use Rattle.card_tally.specs.declared.Tally.{Tally}
-use Rattle.card_tally.specs.Tally.{added}
+use Rattle.card_tally.specs.declared.Tallies.{Tallies}
+use Rattle.card_tally.specs.Ports.{counted}
 use Rattle.gmp_sink.specs.declared.SinkState.{SinkState}
 use Rattle.gmp_sink.specs.Sink.{sinkAnswer, sinkMended, sinkHanded}
 use Rattle.gmp_sink.proofs.Laws.{mended-answers}
-use Rattle.card_sink.specs.Card.{badFrames, tallyBy, tallyAfter}
+use Rattle.card_sink.specs.Card.{badFrames, talliesBy, talliesAfter}
 use Rattle.card_sink.proofs.mended_is_good.Statement.{statement}
 use Rattle.card_sink.proofs.mended_is_good.Tie as tie
 
-module _ (s : Settings) (z : SinkState) (frame out : List ℕ) (m : sinkMended s frame out ≡ true) where
-  answers : (f : Finding) × (sinkAnswer s z frame out ≡ accepted f) × (badFrames f ≡ 0)
-  answers = let a = mended-answers s z frame out m in (a .0, a .1, ap (λ (b : Bool). cond b 1 0) (a .2))
+module _ (s : Settings) (z : SinkState) (frame out : List ℕ) (port : ℕ) (m : sinkMended s frame out port ≡ true) where
+  answers : (f : Finding) × (sinkAnswer s z frame out port ≡ accepted f) × (badFrames f ≡ 0)
+  answers = let a = mended-answers s z frame out port m in (a .0, a .1, ap (λ (b : Bool). cond b 1 0) (a .2))
 
-  tallied : (y : Tally) → tallyAfter s z frame out y ≡ added y 1 0 (length (sinkHanded s z frame out))
-  unfolding tallyAfter
+  tallied : (y : Tallies) → talliesAfter s z frame out port y ≡ counted y port 1 0 (length (sinkHanded s z frame out port))
+  unfolding talliesAfter
   tallied y =
-      let n : ℕ = length (sinkHanded s z frame out) in
-      ap (λ (a : Answer Finding). tallyBy a n y) (answers .1) ∙ ap (λ (bad : ℕ). added y 1 bad n) (answers .2)
+      let n : ℕ = length (sinkHanded s z frame out port) in
+      ap (λ (a : Answer Finding). talliesBy a port n y) (answers .1) ∙ ap (λ (bad : ℕ). counted y port 1 bad n) (answers .2)
 
 returns : tie.Need-returns
-returns c = record { standing = answers; tally = λ s z frame out y m. tallied s z frame out m y }
+returns c = record { standing = answers; tallies = λ s z frame out port y m. tallied s z frame out port m y }
 
 pub mended-is-good-spec : {M : Type 1} → statement M
 mended-is-good-spec = tie.close (tie.spec returns)

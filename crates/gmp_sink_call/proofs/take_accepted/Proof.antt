@@ -1,10 +1,9 @@
 -- `gmp_sink_call::take_accepted` meets its contract: the parts, put together. Assumes nothing.
-use mathlib.Core.Path.{_∙_, sym, ap}
-use lib.ListN.{length}
+use mathlib.Core.Path.{_∙_, ap}
 use borrow.Author.Needs.{needs}
 use Rattle.refusals.specs.Table.{accepted}
 use Rattle.gmp_sink.specs.Sink.{stateAfter, standingAfter, mendedIn}
-use Rattle.gmp_sink.proofs.Laws.{answer-accepted, state-accepted, mended-accepted, handed-accepted, out-accepted, state-of-parts}
+use Rattle.gmp_sink.proofs.Laws.{state-of-parts}
 use Rattle.gmp_sink_call.proofs.take_accepted.Statement.{statement}
 use Rattle.gmp_sink_call.proofs.take_accepted.Tie as tie
 
@@ -22,22 +21,18 @@ same-length c = search needs
 
 returns : tie.Need-returns
 returns c =
-    let start = c .before .before .before .before .before .before .before .before .before in
-    let g = start .args in
+    let g = c .before .before .before .before .before .before .before .before .before .args in
     let s = g .settings in
     let z = g .state in
-    let frame = g .frame .now in
-    let out = g .out .now in
-    let zero = start .pre in
     let control = c .before .before .before .before .before .before .control-of .ensures in
     let reads = c .before .before .before .before .before .read-control .ensures in
     let hands = c .before .before .hand-out .ensures in
     record {
-      answer = ap accepted (reads .standing ∙ ap (standingAfter s z) control) ∙ sym (answer-accepted s z frame out zero);
-      state = state-of-parts _ _ _ (reads .count) (reads .word) ∙ ap (stateAfter s z) control ∙ sym (state-accepted s z frame out zero);
-      handed-bytes = hands .length-is ∙ sym (ap length (handed-accepted s z frame out zero));
-      mended = reads .mended ∙ ap (mendedIn s) control ∙ sym (mended-accepted s z frame out zero);
-      out-buffer = hands .buffer ∙ sym (out-accepted s z frame out zero);
+      answer = ap accepted (reads .standing ∙ ap (standingAfter s z) control);
+      state = state-of-parts _ _ _ (reads .count) (reads .word) ∙ ap (stateAfter s z) control;
+      handed-bytes = hands .length-is;
+      mended = reads .mended ∙ ap (mendedIn s) control;
+      out-buffer = hands .buffer;
     }
 
 pub take-accepted-spec : {M : Type 1} → statement M

@@ -5,7 +5,7 @@ use borrow.Author.Needs.{needs}
 use Rattle.refusals.specs.Table.{refused}
 use Rattle.gmp_refusal.specs.Refusal.{verdictNumber}
 use Rattle.gmp_refusal.proofs.Laws.{refused-has-number}
-use Rattle.gmp_sink.proofs.Laws.{answer-refused, state-refused, mended-refused, handed-refused, out-refused}
+use Rattle.gmp_sink.proofs.Laws.{accepted-knows, promise-accepted, answer-refused, state-refused, mended-refused, handed-refused, out-refused}
 use Rattle.gmp_sink_call.proofs.take_frame.Statement.{statement}
 use Rattle.gmp_sink_call.proofs.take_frame.Tie as tie
 
@@ -19,13 +19,19 @@ enum-told : tie.Need-enum-told
 enum-told c = search needs
 
 take-accepted-requires : tie.Need-take-accepted-requires
-take-accepted-requires c κs = sym (c .before .before .before .judge-call .ensures) ∙ ap verdictNumber (c .before .enum-told .given .1)
+take-accepted-requires c κs =
+    let g = c .before .before .before .before .before .before .args in
+    accepted-knows (g .settings) (length (g .frame .now)) (length (g .out .now)) (g .port)
+    (sym (c .before .before .before .judge-call .ensures) ∙ ap verdictNumber (c .before .enum-told .given .1))
 
 same-length : tie.Need-same-length
 same-length c = search needs
 
 returns : tie.Need-returns
-returns c = search needs
+returns c =
+    let g = c .before .before .before .before .before .before .before .before .before .args in
+    let none = sym (c .before .before .before .before .before .before .judge-call .ensures) ∙ ap verdictNumber (c .before .before .before .before .enum-told .given .1) in
+    promise-accepted (g .settings) (g .state) (g .frame .now) (g .out .now) (g .port) _ _ none (c .before .before .take-accepted .ensures)
 
 returns-2 : tie.Need-returns-2
 returns-2 c =
@@ -33,11 +39,11 @@ returns-2 c =
     let not-zero = refused-has-number _ _ _ (c .before .before .before .judge-call .ensures) (c .before .verdict .given .1) in
     let e = sym (c .before .before .before .judge-call .ensures) ∙ ap verdictNumber (c .before .verdict .given .1) in
     record {
-      answer = ap refused (sym e) ∙ sym (answer-refused (g .settings) (g .state) (g .frame .now) (g .out .now) not-zero);
-      state = sym (state-refused (g .settings) (g .state) (g .frame .now) (g .out .now) not-zero);
-      handed-bytes = sym (ap length (handed-refused (g .settings) (g .state) (g .frame .now) (g .out .now) not-zero));
-      mended = sym (mended-refused (g .settings) (g .state) (g .frame .now) (g .out .now) not-zero);
-      out-buffer = sym (out-refused (g .settings) (g .state) (g .frame .now) (g .out .now) not-zero);
+      answer = ap refused (sym e) ∙ sym (answer-refused (g .settings) (g .state) (g .frame .now) (g .out .now) (g .port) not-zero);
+      state = sym (state-refused (g .settings) (g .state) (g .frame .now) (g .out .now) (g .port) not-zero);
+      handed-bytes = sym (ap length (handed-refused (g .settings) (g .state) (g .frame .now) (g .out .now) (g .port) not-zero));
+      mended = sym (mended-refused (g .settings) (g .state) (g .frame .now) (g .out .now) (g .port) not-zero);
+      out-buffer = sym (out-refused (g .settings) (g .state) (g .frame .now) (g .out .now) (g .port) not-zero);
     }
 
 pub take-frame-spec : {M : Type 1} → statement M

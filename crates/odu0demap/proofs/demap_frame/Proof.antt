@@ -13,8 +13,17 @@ opu0-requires c κs = search needs
 with-mending-requires : tie.Need-with-mending-requires
 with-mending-requires c κs = search needs
 
+new-tallies-requires : tie.Need-new-tallies-requires
+new-tallies-requires c κs = search needs
+
+element-set-from-before : tie.Need-element-set-from-before
+element-set-from-before c = search needs
+
 lend-call-requires : tie.Need-lend-call-requires
 lend-call-requires c κs = search needs
+
+tally-of-requires : tie.Need-tally-of-requires
+tally-of-requires c κs = search needs
 
 enum-known-answer : tie.Need-enum-known-answer
 enum-known-answer c = search needs
@@ -27,15 +36,15 @@ same-length c = search needs
 
 returns : tie.Need-returns
 returns c =
-    let start = c .before .before .before .before .before .before .before .before .before .before .before .before .before .before in
+    let start = c .before .before .before .before .before .before .before .before .before .before .before .before .before .before .before .before in
     let g = start .args in
     let k = c .before .before .before .before .before .before .before .lend-call in
     let settings =
-    c .before .before .before .before .before .before .before .before .before .before .with-mending .ensures
-    ∙ ap (λ (s : Settings). withMending s (g .mending)) (c .before .before .before .before .before .before .before .before .before .before .before .opu0 .ensures) in
-    let promise = rw settings at (k .ensures) in
+    c .before .before .before .before .before .before .before .before .before .before .before .before .with-mending .ensures
+    ∙ ap (λ (s : Settings). withMending s (g .mending)) (c .before .before .before .before .before .before .before .before .before .before .before .before .before .opu0 .ensures) in
+    let promise = rw (settings, c .before .before .before .before .before .before .before .before .before .new-tallies .ensures) at (k .ensures) in
     absurd
-    (not-refused (g .mending) (g .demapper) (g .frame .now) (g .out .now) (start .pre .0) (start .pre .1) (k .result .result) _ (k .result .tally)
+    (not-refused (g .mending) (g .demapper) (g .frame .now) (g .out .now) (start .pre .0) (start .pre .1) (k .result .result) _ (k .result .tallies)
     promise _ (c .enum-told .given .1))
 
 standing-number-requires : tie.Need-standing-number-requires
@@ -46,15 +55,15 @@ same-length-2 c = search needs
 
 returns-2 : tie.Need-returns-2
 returns-2 c =
-    let start = c .before .before .before .before .before .before .before .before .before .before .before .before .before .before .before .before in
+    let start = c .before .before .before .before .before .before .before .before .before .before .before .before .before .before .before .before .before .before in
     let g = start .args in
     let k = c .before .before .before .before .before .before .before .before .before .lend-call in
     let settings =
-    c .before .before .before .before .before .before .before .before .before .before .before .before .with-mending .ensures
-    ∙ ap (λ (s : Settings). withMending s (g .mending)) (c .before .before .before .before .before .before .before .before .before .before .before .before .before .opu0 .ensures) in
-    let promise = rw settings at (k .ensures) in
-    takes (g .mending) (g .demapper) (g .frame .now) (g .out .now) (start .pre .0) (start .pre .1) (k .result .result) _ (k .result .tally) promise _
-    (c .before .before .answer .given .1) _ (c .standing-number .ensures)
+    c .before .before .before .before .before .before .before .before .before .before .before .before .before .before .with-mending .ensures
+    ∙ ap (λ (s : Settings). withMending s (g .mending)) (c .before .before .before .before .before .before .before .before .before .before .before .before .before .before .before .opu0 .ensures) in
+    let promise = rw (settings, c .before .before .before .before .before .before .before .before .before .before .before .new-tallies .ensures) at (k .ensures) in
+    takes (g .mending) (g .demapper) (g .frame .now) (g .out .now) (start .pre .0) (start .pre .1) (k .result .result) _ (k .result .tallies) promise _
+    (c .before .before .answer .given .1) _ (c .standing-number .ensures) _ (c .before .before .before .before .before .tally-of .ensures)
 
 pub demap-frame-spec : {M : Type 1} → statement M
 demap-frame-spec =
@@ -62,7 +71,10 @@ demap-frame-spec =
     (tie.spec
     opu0-requires
     with-mending-requires
+    new-tallies-requires
+    element-set-from-before
     lend-call-requires
+    tally-of-requires
     enum-known-answer
     enum-told
     same-length

@@ -1,10 +1,14 @@
 //! Makes each call twice, through the library and through the second implementation, and compares
-//! the answer, the state, every byte of every buffer and the tally.
+//! the answer, the state, every byte of every buffer, the tallies of all ports and the card's
+//! total.
 //!
 //! A case draws its random numbers from the seed, the test's name and its own index, so it can be
 //! run again alone. SEED sets another seed, CASE runs one case only, RUNS multiplies the cases.
 
-use second::{pattern, Keeper, Random, Settings, Sink, Source, Standing, Taken, Tally};
+use crate::given::any_tallies;
+use second::{
+    pattern, Card, Keeper, Random, Settings, Sink, Source, Standing, Taken, Tally, PORTS,
+};
 use std::fmt;
 use std::io::Write;
 use std::time::Instant;
@@ -45,7 +49,7 @@ enum Call {
     Source(Settings, Source, u32, Vec<u8>, Vec<u8>),
     NewKeeper(u32),
     Keeper(Settings, Keeper, u32, u32),
-    Sink(Settings, Sink, Vec<u8>, Vec<u8>, Tally),
+    Sink(Settings, Sink, Vec<u8>, Vec<u8>, u32, [Tally; 8]),
 }
 
 /// Runs a test's cases and says on standard error how many calls were compared.
@@ -183,6 +187,8 @@ impl Case {
         ours
     }
 
+    /// A sink's call on any port of a card whose other ports have any numbers: this tally is that
+    /// of the port. So the tests that go by one tally go from port to port.
     pub fn sink(
         &mut self,
         settings: Settings,
@@ -191,23 +197,47 @@ impl Case {
         out: &mut [u8],
         tally: &mut Tally,
     ) -> Result<Taken, u32> {
-        self.last = Some(Call::Sink(settings, state.clone(), frame.to_vec(), out.to_vec(), *tally));
+        let port = self.random.from_to(1, PORTS);
+        let mut tallies = any_tallies(&mut self.random);
+        tallies[port as usize - 1] = *tally;
+        let mut card = Card::with(tallies);
+        let answer = self.sink_on(settings, state, frame, out, port, &mut card);
+        *tally = card.tally(port);
+        answer
+    }
+
+    /// A sink's call that names its port, which may be none of the card's.
+    pub fn sink_on(
+        &mut self,
+        settings: Settings,
+        state: &mut Sink,
+        frame: &[u8],
+        out: &mut [u8],
+        port: u32,
+        card: &mut Card,
+    ) -> Result<Taken, u32> {
+        let before = card.tallies();
+        self.last =
+            Some(Call::Sink(settings, state.clone(), frame.to_vec(), out.to_vec(), port, before));
         let mut their_frame = Lent::new(self.index, frame);
         let mut their_out = Lent::new(self.index, out);
         let mut their_state = odu0::Sink { count: state.count, word: state.word };
-        let mut their_tally =
-            odu0::Tally { frames: tally.frames, bad: tally.bad, bytes: tally.bytes };
+        let mut their_card = LentCard::new(before);
         let theirs = their_state
-            .call(settings_of(settings), their_frame.lent(), their_out.lent(), &mut their_tally)
+            .call(
+                settings_of(settings),
+                their_frame.lent(),
+                their_out.lent(),
+                port,
+                &mut their_card.tallies,
+            )
             .map(taken_of)
             .map_err(odu0::Refusal::number);
-        let ours = state.call(settings, frame, out, tally);
+        let ours = state.call(settings, frame, out, port, card);
         assert_eq!(theirs, ours, "the answer: library, second");
         let their_state = Sink { count: their_state.count, word: their_state.word };
         assert_eq!(their_state, *state, "the state: library, second");
-        let their_tally =
-            Tally { frames: their_tally.frames, bad: their_tally.bad, bytes: their_tally.bytes };
-        assert_eq!(their_tally, *tally, "the tally: library, second");
+        their_card.must_be(card);
         their_frame.must_be("frame", frame);
         their_out.must_be("output", out);
         self.count_frame(settings, ours.err());
@@ -256,6 +286,10 @@ fn back(state: odu0::Source) -> Source {
 fn taken_of(taken: odu0::Taken) -> Taken {
     let odu0::Taken { standing, handed, mended } = taken;
     Taken { standing: standing_of(standing), handed, mended }
+}
+
+fn tally_of(tally: odu0::Tally) -> Tally {
+    Tally { frames: tally.frames, bad: tally.bad, bytes: tally.bytes }
 }
 
 fn standing_of(standing: odu0::Standing) -> Standing {
@@ -317,6 +351,34 @@ impl Lent {
     }
 }
 
+/// Tallies for the library, with numbers before and behind them that it has to leave alone: those
+/// are where a port 0 and a port 9 would have theirs.
+#[repr(C)]
+pub struct LentCard {
+    before: [u32; 9],
+    pub tallies: odu0::Tallies,
+    behind: [u32; 9],
+}
+
+const EDGE: [u32; 9] = [0xA5A5_A5A5; 9];
+
+impl LentCard {
+    pub fn new(tallies: [Tally; 8]) -> LentCard {
+        let port = tallies.map(|Tally { frames, bad, bytes }| odu0::Tally { frames, bad, bytes });
+        LentCard { before: EDGE, tallies: odu0::Tallies { port }, behind: EDGE }
+    }
+
+    /// The numbers of all ports are those of the card, and so is the total, which changes nothing.
+    pub fn must_be(&self, card: &Card) {
+        let odu0::Total { frames, bad, bytes } = self.tallies.total();
+        let total = [frames, bad, bytes].map(u128::from);
+        let tallies = self.tallies.port.map(tally_of);
+        assert_eq!(tallies, card.tallies(), "the tallies: library, second");
+        assert_eq!(total, card.total(), "the card's total: library, second");
+        assert!([self.before, self.behind] == [EDGE; 2], "the library wrote outside the tallies");
+    }
+}
+
 impl fmt::Display for Call {
     fn fmt(&self, f: &mut fmt::Formatter<'_>) -> fmt::Result {
         match self {
@@ -335,8 +397,8 @@ impl fmt::Display for Call {
             Call::Keeper(settings, state, p, q) => {
                 write!(f, "  a keeper call; {settings:?}; {state:?}; p {p}, q {q}")
             }
-            Call::Sink(settings, state, frame, out, tally) => {
-                writeln!(f, "  a sink call; {settings:?}; {state:?}; {tally:?}")?;
+            Call::Sink(settings, state, frame, out, port, tallies) => {
+                writeln!(f, "  a sink call; {settings:?}; {state:?}; port {port}; {tallies:?}")?;
                 writeln!(f, "  frame, {} bytes: {}", frame.len(), hex(frame))?;
                 write!(f, "  output before, {} bytes: {}", out.len(), hex(out))
             }

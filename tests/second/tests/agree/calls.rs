@@ -2,7 +2,7 @@
 
 use crate::both::{all_cases, cases, Case};
 use crate::given::*;
-use second::{check, Keeper, Settings, Sink, Source, Tally};
+use second::{check, Card, Keeper, Settings, Sink, Source, Tally};
 
 #[test]
 fn random_sink_calls() {
@@ -17,8 +17,8 @@ fn random_sink_calls() {
         let more = if random.once_in(2) { random.below(20) } else { 0 };
         let length = any_length(random, u64::from(settings.hi) + more);
         let mut out = random.bytes(length);
-        let mut tally = any_tally(random);
-        let _ = case.sink(settings, &mut state, &frame, &mut out, &mut tally);
+        let (port, mut card) = (any_port(random), Card::with(any_tallies(random)));
+        let _ = case.sink_on(settings, &mut state, &frame, &mut out, port, &mut card);
     });
     if all_cases() {
         assert!(done.standings.iter().all(|times| *times > 1000), "{:?}", done.standings);
@@ -29,7 +29,7 @@ fn random_sink_calls() {
             done.mended
         );
         assert!(
-            [1, 2, 8, 9, 14].iter().all(|number| done.refused[*number] > 1000),
+            [1, 2, 8, 9, 10, 14].iter().all(|number| done.refused[*number] > 1000),
             "{:?}",
             done.refused
         );

@@ -1,10 +1,10 @@
 //! The fields of the C interface themselves, where they say more than the Rust types: flags of
 //! every value, what stands beside a flag of 0, every field of a reply, and NULL.
 
-use crate::both::{cases, settings_of, Lent};
+use crate::both::{cases, settings_of, Lent, LentCard};
 use crate::given::*;
 use odu0::ffi;
-use second::{Random, Settings, Standing, Taken, Tally};
+use second::{Card, Random, Settings, Standing, Taken};
 use std::ptr::null_mut;
 
 /// A flag that says this: 0 for no, any other value for yes.
@@ -54,19 +54,19 @@ fn fields_of_a_sink_call() {
         put_control(settings, &mut frame, control);
         let out = any_length(random, u64::from(settings.hi));
         let mut out = random.bytes(out);
-        let mut tally = any_tally(random);
+        let (port, tallies) = (any_port(random), any_tallies(random));
+        let (mut card, mut their_card) = (Card::with(tallies), LentCard::new(tallies));
 
-        let mut their_tally =
-            odu0::Tally { frames: tally.frames, bad: tally.bad, bytes: tally.bytes };
         let (mut their_frame, mut their_out) = (Lent::new(0, &frame), Lent::new(0, &out));
         // SAFETY: each pointer is that of a live buffer, before its length, and none overlap.
         let reply = unsafe {
             let (frame, out) = (their_frame.lent(), their_out.lent());
             let (frame, frame_len) = (frame.as_ptr(), frame.len());
             let (out, out_len) = (out.as_mut_ptr(), out.len());
-            ffi::odu0_sink_call(fields, given, frame, frame_len, out, out_len, &mut their_tally)
+            let tallies = &mut their_card.tallies;
+            ffi::odu0_sink_call(fields, given, frame, frame_len, out, out_len, port, tallies)
         };
-        let answer = state.call(settings, &frame, &mut out, &mut tally);
+        let answer = state.call(settings, &frame, &mut out, port, &mut card);
 
         let (refusal, standing, count, handed, mended) = match answer {
             Err(number) => (number, 0, None, 0, 0),
@@ -74,7 +74,7 @@ fn fields_of_a_sink_call() {
                 (0, standing_number(standing), standing.count(), handed, mended.into())
             }
         };
-        let said = || format!("{fields:?}, {given:?}, frame {frame:02X?}: {reply:?}");
+        let said = || format!("{fields:?}, {given:?}, port {port}, frame {frame:02X?}: {reply:?}");
         assert_eq!((reply.refusal, reply.standing), (refusal, standing), "{}", said());
         assert_eq!(reply.found, u32::from(count.is_some()), "{}", said());
         assert_eq!(reply.count, count.unwrap_or(0), "{}", said());
@@ -92,9 +92,7 @@ fn fields_of_a_sink_call() {
         }
         their_frame.must_be("frame", &frame);
         their_out.must_be("output", &out);
-        let their_tally =
-            Tally { frames: their_tally.frames, bad: their_tally.bad, bytes: their_tally.bytes };
-        assert_eq!(their_tally, tally, "{}", said());
+        their_card.must_be(&card);
         case.count_frame(settings, answer.err());
     });
 }
@@ -117,7 +115,7 @@ fn a_buffer_of_length_0_may_be_null() {
     let source = odu0::Source::new(settings, 0, 7).unwrap();
     let settings = ffi::Settings::from(settings);
     let sink = ffi::Sink::from(&odu0::Sink::new());
-    let (mut tally, mut frame) = (odu0::Tally::default(), [9; 12]);
+    let (mut tallies, mut frame) = (odu0::Tallies::new(), [9; 12]);
     let at = frame.as_mut_ptr();
     // SAFETY: the pointer of a buffer of length 0 is not used; the other buffers are live and do
     // not overlap.
@@ -126,16 +124,19 @@ fn a_buffer_of_length_0_may_be_null() {
         assert_eq!(reply.refusal, 0);
         let reply = ffi::odu0_source_call(settings, source, 0, null_mut(), 0, null_mut(), 0);
         assert_eq!(reply.refusal, 8);
-        let reply = ffi::odu0_sink_call(settings, sink, at, 12, null_mut(), 0, &mut tally);
+        let mut call = |settings, frame, length, port| {
+            ffi::odu0_sink_call(settings, sink, frame, length, null_mut(), 0, port, &mut tallies)
+        };
+        let reply = call(settings, at, 12, 5);
         assert_eq!((reply.refusal, reply.standing, reply.found, reply.count), (0, 1, 1, 0));
-        let reply = ffi::odu0_sink_call(settings, sink, null_mut(), 0, null_mut(), 0, &mut tally);
-        assert_eq!(reply.refusal, 8);
-        let settings = ffi::Settings { hi: 1, ..settings };
-        let reply = ffi::odu0_sink_call(settings, sink, at, 12, null_mut(), 0, &mut tally);
-        assert_eq!(reply.refusal, 9);
+        assert_eq!(call(settings, null_mut(), 0, 5).refusal, 8);
+        assert_eq!(call(settings, at, 12, 0).refusal, 10);
+        assert_eq!(call(ffi::Settings { hi: 1, ..settings }, at, 12, 5).refusal, 9);
     }
     assert_eq!(frame, [0, 0, 0, 0, 0, 0, 0, 0, 0, 7, 0, 0]);
-    assert_eq!(tally, odu0::Tally { frames: 1, bad: 0, bytes: 0 });
+    let mut wanted = odu0::Tallies::new();
+    wanted.port[5 - 1].frames = 1;
+    assert_eq!(tallies, wanted);
 }
 
 #[test]

@@ -1,7 +1,7 @@
 //! What the calls are given: random arguments, most of them near what is accepted or expected, and
 //! hostile ones.
 
-use second::{check, pattern, possible, word, Random, Settings, Sink, Tally};
+use second::{check, pattern, possible, word, Random, Settings, Sink, Tally, PORTS};
 
 /// The widest window.
 pub const WIDE: Settings = Settings::new(3808, 0, 15232);
@@ -172,6 +172,28 @@ pub fn any_tally(random: &mut Random) -> Tally {
         _ => random.u32(),
     };
     Tally { frames: value(), bad: value(), bytes: value() }
+}
+
+/// The tallies of all ports.
+pub fn any_tallies(random: &mut Random) -> [Tally; 8] {
+    [(); 8].map(|()| any_tally(random))
+}
+
+/// A port that the card does not have: one beside the right ones, one that 8, 16 or 31 bits would
+/// make a right one of, or any.
+pub fn wrong_port(random: &mut Random) -> u32 {
+    let right = random.from_to(1, PORTS);
+    let any = random.from_to(PORTS + 1, u32::MAX);
+    random.of(&[0, 9, 10, 1 << 31, u32::MAX, 256 + right, 65536 + right, 1 << 31 | right, any])
+}
+
+/// Mostly a port that the card has.
+pub fn any_port(random: &mut Random) -> u32 {
+    if random.once_in(10) {
+        wrong_port(random)
+    } else {
+        random.from_to(1, PORTS)
+    }
 }
 
 /// Control bytes of the worked frames.

@@ -359,21 +359,26 @@ fn a_wrong_bit_in_every_frame() {
     });
 }
 
-/// The sink's reply as C gives it, with the bytes and the tally that it leaves.
+/// What each port's tally is before.
+const BEFORE: odu0::Tally = odu0::Tally { frames: 3, bad: 2, bytes: 1 };
+
+/// The sink's reply as C gives it, with the bytes and the tallies that it leaves.
 fn reply(
     settings: ffi::Settings,
     state: ffi::Sink,
     frame: &[u8],
     out: usize,
-) -> (ffi::SinkReply, Vec<u8>, odu0::Tally) {
+    port: u32,
+) -> (ffi::SinkReply, Vec<u8>, [odu0::Tally; 8]) {
     let mut out = Lent::new(0, &vec![0x22; out]);
-    let mut tally = odu0::Tally { frames: 3, bad: 2, bytes: 1 };
+    let mut tallies = odu0::Tallies { port: [BEFORE; 8] };
     let (at, length) = (out.lent().as_mut_ptr(), out.lent().len());
+    let (from, bytes) = (frame.as_ptr(), frame.len());
     // SAFETY: each pointer is that of a live buffer, before its length, and none overlap.
     let reply = unsafe {
-        ffi::odu0_sink_call(settings, state, frame.as_ptr(), frame.len(), at, length, &mut tally)
+        ffi::odu0_sink_call(settings, state, from, bytes, at, length, port, &mut tallies)
     };
-    (reply, out.lent().to_vec(), tally)
+    (reply, out.lent().to_vec(), tallies.port)
 }
 
 /// A wrong bit in each of JC1, JC2 and JC3, with 0 and with other values of the field. No call
@@ -389,7 +394,7 @@ fn values_of_mending() {
         put_control(Settings::OPU0, &mut frame, control);
         for mending in [0, 1, 2, 3, 255, 256, 65536, 1 << 31, u32::MAX] {
             settings.mending = mending;
-            let (reply, _, tally) = reply(settings, state, &frame, 14410);
+            let (reply, _, tallies) = reply(settings, state, &frame, 14410, 1);
             let (standing, found, count, word) =
                 if mending == 0 { (4, 0, 0, None) } else { (2, 1, 14408, Some(0x4BB6)) };
             assert_eq!((reply.refusal, reply.standing), (0, standing), "{mending}");
@@ -398,7 +403,8 @@ fn values_of_mending() {
             let left = odu0::Sink::from(reply.state);
             assert_eq!((left.count, left.word), (word.map(|_| 14408), word), "{mending}");
             let bad = u32::from(mending == 0);
-            assert_eq!(tally, odu0::Tally { frames: 4, bad: 2 + bad, bytes: 14408 });
+            assert_eq!(tallies[0], odu0::Tally { frames: 4, bad: 2 + bad, bytes: 14408 });
+            assert_eq!(tallies[1..], [BEFORE; 7]);
             // SAFETY: plain values.
             let (source, keeper) = unsafe {
                 let source = ffi::odu0_source_new(settings, 14407, 7);
@@ -417,17 +423,18 @@ fn refused_calls_mend_nothing() {
     let state = ffi::Sink { known: 9, count: 4, remembered: 8, word: 0xFFFF_0002 };
     let mut frame = vec![0x77; 16];
     put_control(EIGHT, &mut frame, [0, 0x10, 0xD1]);
-    assert_eq!(reply(right, state, &frame, 8).0.mended, 1);
+    assert_eq!(reply(right, state, &frame, 8, 1).0.mended, 1);
     let patterns = fields_of(EIGHT.with_mending().with_patterns([0, 0, 1, 3]));
     let calls = [
-        (1, ffi::Settings { k: 0, ..right }, 16, 8),
-        (2, ffi::Settings { hi: 9, ..right }, 16, 9),
-        (8, right, 15, 8),
-        (9, right, 16, 7),
-        (14, patterns, 16, 8),
+        (1, ffi::Settings { k: 0, ..right }, 16, 8, 1),
+        (2, ffi::Settings { hi: 9, ..right }, 16, 9, 1),
+        (8, right, 15, 8, 1),
+        (9, right, 16, 7, 1),
+        (10, right, 16, 8, 0),
+        (14, patterns, 16, 8, 1),
     ];
-    for (number, settings, frame_len, out_len) in calls {
-        let (reply, out, tally) = reply(settings, state, &frame[..frame_len], out_len);
+    for (number, settings, frame_len, out_len, port) in calls {
+        let (reply, out, tallies) = reply(settings, state, &frame[..frame_len], out_len, port);
         let nothing = ffi::SinkReply {
             refusal: number,
             standing: 0,
@@ -439,7 +446,7 @@ fn refused_calls_mend_nothing() {
         };
         assert_eq!(reply, nothing);
         assert!(out.iter().all(|byte| *byte == 0x22), "refusal {number}");
-        assert_eq!(tally, odu0::Tally { frames: 3, bad: 2, bytes: 1 });
+        assert_eq!(tallies, [BEFORE; 8]);
     }
 }
 

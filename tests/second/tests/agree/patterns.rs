@@ -6,7 +6,9 @@ use crate::fields::{any_fields, fields_of};
 use crate::given::*;
 use crate::runs::{back_after_two_frames, no_false_count, rough_line};
 use odu0::ffi;
-use second::{check, word, Keeper, Random, Settings, Sink, Source, Standing, Tally, STANDARD};
+use second::{
+    check, word, Card, Keeper, Random, Settings, Sink, Source, Standing, Tally, STANDARD,
+};
 
 /// Runs so many frames at most on a small grid, and once in ten times some on OPU0's and on a large
 /// one. All the settings carry patterns that keep the rule.
@@ -58,7 +60,7 @@ fn every_small_table_from_every_state() {
     let client = [0xC1, 0xC2, 0xC3, 0xC4];
     let near = (0..=9).chain(16380..=16383).flat_map(|bits| [bits << 2 | 1, bits << 2 | 2]);
     let words: Vec<Option<u32>> = [None].into_iter().chain(near.map(Some)).collect();
-    let mut tally = odu0::Tally::default();
+    let mut tallies = odu0::Tallies::new();
     for number in 0..96 {
         let (plus, minus, differ) = (number & 3, number >> 2 & 3, 1 + (number >> 4) % 3);
         let four = [plus, minus, plus ^ differ, minus ^ differ];
@@ -78,14 +80,15 @@ fn every_small_table_from_every_state() {
                     let mut sink = odu0::Sink { count: known, word: *remembered };
                     let mut out = [0xEE; 4];
                     let mut call = |old: usize, next: usize| {
-                        sink.call(settings, &frames[old][next], &mut out, &mut tally).unwrap();
+                        let frame = &frames[old][next];
+                        sink.call(settings, frame, &mut out, 1, &mut tallies).unwrap();
                         sink.count
                     };
                     call(old, next);
                     assert_eq!(call(next, last), Some(last as u32), "{said}");
                     out = [0xEE; 4];
-                    let taken = sink.call(settings, &frames[last][old], &mut out, &mut tally);
-                    let taken = taken.unwrap();
+                    let frame = &frames[last][old];
+                    let taken = sink.call(settings, frame, &mut out, 1, &mut tallies).unwrap();
                     assert_eq!(
                         (taken.handed, sink.count),
                         (last as u32, Some(old as u32)),
@@ -97,7 +100,7 @@ fn every_small_table_from_every_state() {
             }
         }
     }
-    assert_eq!(tally.bad, 0);
+    assert_eq!(tallies.total().bad, 0);
 }
 
 /// The control bytes of each count of OPU0 with each next one, and what a sink that knows the count
@@ -106,7 +109,7 @@ fn every_small_table_from_every_state() {
 fn every_word_of_opu0() {
     let mut random = Random::new(14);
     let standard = STANDARD.map(|(_, pattern)| pattern);
-    let (mut out, mut tally) = (vec![0; 14410], odu0::Tally::default());
+    let (mut out, mut tallies) = (vec![0; 14410], odu0::Tallies::new());
     let client = random.bytes(14410);
     for table in 0..300 {
         let four = if table == 0 { standard } else { kept(&mut random) };
@@ -119,13 +122,13 @@ fn every_word_of_opu0() {
                 let said = format!("{four:?}: {old} to {next}");
                 assert_eq!(control_bytes(settings).map(|at| frame[at]), control, "{said}");
                 let mut sink = odu0::Sink { count: Some(old), word: None };
-                let taken = sink.call(settings_of(settings), &frame, &mut out, &mut tally).unwrap();
+                let taken = sink.call(settings_of(settings), &frame, &mut out, 1, &mut tallies);
                 let standing = match next.abs_diff(old) {
                     1 | 2 => odu0::Standing::Tracked(next),
                     _ => odu0::Standing::Read(next),
                 };
                 let wanted = odu0::Taken { standing, handed: old, mended: false };
-                assert_eq!(taken, wanted, "{said}");
+                assert_eq!(taken, Ok(wanted), "{said}");
                 assert!(out.starts_with(&client[..old as usize]), "{said}");
             }
         }
@@ -189,13 +192,14 @@ struct Given {
     q: u32,
     remainder: u32,
     out: u32,
+    port: u32,
 }
 
 /// A fault's number, and how arguments that have none come to it.
 type Fault = (u32, fn(&mut Given));
 
 /// Each makes one number apply, where the call has it, and no other.
-const FAULTS: [Fault; 9] = [
+const FAULTS: [Fault; 10] = [
     (1, |given| (given.settings.k, given.frame) = (3809, 15244)),
     (2, |given| {
         given.settings.hi = 4 * given.settings.k + 1;
@@ -212,6 +216,7 @@ const FAULTS: [Fault; 9] = [
     (7, |given| given.client += 1),
     (8, |given| given.frame -= 1),
     (9, |given| given.out = given.settings.hi - 1),
+    (10, |given| given.port = 9),
 ];
 
 impl Given {
@@ -228,6 +233,7 @@ impl Given {
             q: 5,
             remainder: 4,
             out: settings.hi,
+            port: 8,
         }
     }
 
@@ -258,15 +264,16 @@ impl Given {
             assert_eq!(case.keeper(settings, &mut left, self.p, self.q), Err(number));
             assert_eq!(left, state);
         }
-        if has(&[1, 2, 8, 9]) {
+        if has(&[1, 2, 8, 9, 10]) {
             let state = any_sink(&mut case.random, settings);
-            let tally = any_tally(&mut case.random);
-            assert_eq!(state.refusals(settings, &frame, &out), applying);
-            let (mut left, mut filled, mut counted) = (state.clone(), out.clone(), tally);
-            let answer = case.sink(settings, &mut left, &frame, &mut filled, &mut counted);
+            let card = Card::with(any_tallies(&mut case.random));
+            assert_eq!(state.refusals(settings, &frame, &out, self.port), applying);
+            let (mut left, mut filled, mut counted) = (state.clone(), out.clone(), card.clone());
+            let answer =
+                case.sink_on(settings, &mut left, &frame, &mut filled, self.port, &mut counted);
             assert_eq!(answer, Err(number));
             assert!(
-                left == state && filled == out && counted == tally,
+                left == state && filled == out && counted == card,
                 "{settings:?}, refusal {number}"
             );
         }
@@ -310,7 +317,7 @@ fn broken_patterns_with_each_other_fault() {
     });
 }
 
-/// The replies of all four calls as C gives them, and the bytes and the tally that they leave.
+/// The replies of all four calls as C gives them, and the bytes and the tallies that they leave.
 type Replies = (
     ffi::SourceReply,
     ffi::SourceReply,
@@ -318,7 +325,7 @@ type Replies = (
     ffi::SinkReply,
     Vec<u8>,
     Vec<u8>,
-    odu0::Tally,
+    odu0::Tallies,
 );
 
 /// Makes all four calls with these settings, on a frame that the source fills.
@@ -333,7 +340,7 @@ fn replies(
     let sink = ffi::Sink { known: 1, count, remembered: 0, word: 0 };
     let mut frame = Lent::new(0, &vec![0x11; length]);
     let mut out = Lent::new(0, &vec![0x22; settings.hi as usize]);
-    let mut tally = odu0::Tally::default();
+    let mut tallies = odu0::Tallies::new();
     let (at, behind) = (frame.lent().as_mut_ptr(), out.lent().as_mut_ptr());
     let (from, bytes, most) = (client.as_ptr(), client.len(), settings.hi as usize);
     // SAFETY: each pointer is that of a live buffer, before its length, and none overlap.
@@ -341,8 +348,8 @@ fn replies(
         let new = ffi::odu0_source_new(settings, count, 7);
         let call = ffi::odu0_source_call(settings, state, next, from, bytes, at, length);
         let keeper = ffi::odu0_keeper_call(settings, count, 1, 0);
-        let taken = ffi::odu0_sink_call(settings, sink, at, length, behind, most, &mut tally);
-        (new, call, keeper, taken, frame.lent().to_vec(), out.lent().to_vec(), tally)
+        let taken = ffi::odu0_sink_call(settings, sink, at, length, behind, most, 1, &mut tallies);
+        (new, call, keeper, taken, frame.lent().to_vec(), out.lent().to_vec(), tallies)
     }
 }
 

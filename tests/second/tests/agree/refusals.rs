@@ -1,8 +1,8 @@
 //! Each refusal alone, and each with others: the lowest number is the answer.
 
 use crate::both::{all_cases, cases};
-use crate::given::{any_sink, any_tally};
-use second::{Keeper, Settings, Source};
+use crate::given::{any_sink, any_tallies, wrong_port};
+use second::{Card, Keeper, Settings, Source};
 use std::collections::BTreeSet;
 
 /// Settings that each of grid, window and patterns applies to or not, in many ways.
@@ -62,24 +62,32 @@ fn refusals_of_the_sink() {
         for settings in settings_for_refusals() {
             for frame in lengths(settings.frame()) {
                 for out in lengths(u64::from(settings.hi)) {
-                    let state = any_sink(&mut case.random, settings);
-                    let (frame, out) = (case.random.bytes(frame), case.random.bytes(out));
-                    let tally = any_tally(&mut case.random);
-                    let (mut new_state, mut new_out, mut new_tally) =
-                        (state.clone(), out.clone(), tally);
-                    let applying = state.refusals(settings, &frame, &out);
-                    let answer =
-                        case.sink(settings, &mut new_state, &frame, &mut new_out, &mut new_tally);
-                    lowest(&applying, &answer);
-                    if answer.is_err() {
-                        assert!((new_state, new_out, new_tally) == (state, out, tally));
+                    for port in [1, 8, 0, wrong_port(&mut case.random)] {
+                        let state = any_sink(&mut case.random, settings);
+                        let (frame, out) = (case.random.bytes(frame), case.random.bytes(out));
+                        let card = Card::with(any_tallies(&mut case.random));
+                        let (mut new_state, mut new_out, mut new_card) =
+                            (state.clone(), out.clone(), card.clone());
+                        let applying = state.refusals(settings, &frame, &out, port);
+                        let answer = case.sink_on(
+                            settings,
+                            &mut new_state,
+                            &frame,
+                            &mut new_out,
+                            port,
+                            &mut new_card,
+                        );
+                        lowest(&applying, &answer);
+                        if answer.is_err() {
+                            assert!((new_state, new_out, new_card) == (state, out, card));
+                        }
+                        met.insert(applying);
                     }
-                    met.insert(applying);
                 }
             }
         }
     });
-    all_met(&[1, 2, 8, 9, 14], &met);
+    all_met(&[1, 2, 8, 9, 10, 14], &met);
 }
 
 #[test]

@@ -60,7 +60,7 @@ pub fn source_run(case: &mut Case, settings: Settings, frames: usize) -> Vec<Wri
 }
 
 /// Turns bits over in one part of a frame.
-fn harm(case: &mut Case, settings: Settings, frame: &mut [u8]) {
+pub fn harm(case: &mut Case, settings: Settings, frame: &mut [u8]) {
     let random = &mut case.random;
     let times = random.from_to(1, 6);
     match random.below(5) {

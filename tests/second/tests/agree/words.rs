@@ -4,7 +4,7 @@
 
 use crate::both::settings_of;
 use crate::given::{control_bytes, put_control, WIDE};
-use odu0::{Sink, Source, Standing, Taken, Tally};
+use odu0::{Sink, Source, Standing, Taken, Tallies};
 use second::{check, Settings};
 
 /// Table IX.1: for JC1's C1 to C8 and JC2's C9 to C14, II and DI the bits of JC3, crc1 to crc8,
@@ -27,20 +27,21 @@ fn equated(word: u16) -> u8 {
 #[test]
 fn every_word_that_is_read() {
     let settings = Settings::new(1, 0, 4);
-    let (mut frame, mut out, mut tally) = ([0; 12], [0; 4], Tally::default());
+    let (mut frame, mut out, mut tallies) = ([0; 12], [0; 4], Tallies::new());
     for word in 0..=u16::MAX {
         let right = equated(word);
         assert_eq!(u32::from(right), check(u32::from(word)), "{word:04X}");
         let [jc1, jc2] = word.to_be_bytes();
         for jc3 in 0..=255 {
             put_control(settings, &mut frame, [jc1, jc2, jc3]);
-            let taken = Sink::new().call(settings_of(settings), &frame, &mut out, &mut tally);
-            let taken = taken.unwrap();
+            let (port, settings) = (1 + u32::from(jc3) % 8, settings_of(settings));
+            let taken = Sink::new().call(settings, &frame, &mut out, port, &mut tallies).unwrap();
             let bad = taken.standing == Standing::BadCheck;
             assert_eq!((bad, taken.mended), (jc3 != right, false), "{word:04X} {jc3:02X}");
         }
     }
-    assert_eq!((tally.frames, tally.bad), (1 << 24, 255 << 16));
+    let total = tallies.total();
+    assert_eq!((total.frames, total.bad), (1 << 24, 255 << 16));
 }
 
 /// With mending on a new sink reads every 24 bits as the one word near them, if there is one. Near
@@ -57,12 +58,13 @@ fn every_word_that_is_mended() {
     }
     let settings = settings_of(WIDE.with_mending());
     let mut frame = vec![0; WIDE.frame() as usize];
-    let (mut out, mut tally) = (vec![0; WIDE.hi as usize], Tally::default());
+    let (mut out, mut tallies) = (vec![0; WIDE.hi as usize], Tallies::new());
     for (bits, near) in (0_u32..).zip(near) {
         let [_, jc1, jc2, jc3] = bits.to_be_bytes();
         put_control(WIDE, &mut frame, [jc1, jc2, jc3]);
         let mut sink = Sink::new();
-        let taken = sink.call(settings, &frame, &mut out, &mut tally).unwrap();
+        let port = 1 + u32::from(jc3) % 8;
+        let taken = sink.call(settings, &frame, &mut out, port, &mut tallies).unwrap();
         let (word, mended) = near.map_or((None, false), |(word, mended)| (Some(word), mended));
         let count = word.map(|word| u32::from(word >> 2));
         let (standing, remembered) = match (word.map(|word| word & 3), count) {
@@ -75,7 +77,8 @@ fn every_word_that_is_mended() {
         assert_eq!((sink.count, sink.word), (standing.count(), remembered), "{bits:06X}");
     }
     // A word has itself and 24 others near it.
-    assert_eq!((tally.frames, tally.bad), (1 << 24, (256 - 25) << 16));
+    let total = tallies.total();
+    assert_eq!((total.frames, total.bad), (1 << 24, (256 - 25) << 16));
 }
 
 /// A source writes JC3 by the equations, for each count of the largest grid with each change that

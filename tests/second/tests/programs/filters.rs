@@ -2,7 +2,7 @@
 //! sink at OPU0's size.
 
 use crate::feed::{pieces, run, Written};
-use second::{Keeper, Random, Settings, Sink, Source, Taken, Tally};
+use second::{Card, Keeper, Random, Settings, Sink, Source, Taken};
 use std::time::Duration;
 
 const OPU0: Settings = Settings::OPU0;
@@ -33,13 +33,13 @@ pub fn mapped(input: &[u8], (p, q): (u32, u32)) -> Written {
 /// standing and, where the argument `mend` says so, for each mended frame, and the tally.
 pub fn demapped(input: &[u8], arguments: &[&str]) -> Written {
     let settings = Settings { mending: arguments == ["mend"], ..OPU0 };
-    let (mut sink, mut tally, mut before) = (Sink::new(), Tally::default(), None);
+    let (mut sink, mut card, mut before) = (Sink::new(), Card::new(), None);
     let (mut out, mut said) = (Vec::new(), String::new());
     let frames = input.chunks_exact(FRAME);
     let rest = frames.remainder().len();
     for (frame_number, frame) in (1..).zip(frames) {
         let mut bytes = vec![0; OPU0.hi as usize];
-        let taken = sink.call(settings, frame, &mut bytes, &mut tally).unwrap();
+        let taken = sink.call(settings, frame, &mut bytes, 1, &mut card).unwrap();
         let Taken { standing, handed, mended } = taken;
         out.extend(&bytes[..handed as usize]);
         if before != Some(standing) || mended {
@@ -50,6 +50,7 @@ pub fn demapped(input: &[u8], arguments: &[&str]) -> Written {
         before = Some(standing);
     }
     said += &left("odu0demap", rest);
+    let tally = card.tally(1);
     said += &format!(
         "odu0demap: frames {}, BADCHECK {}, bytes {}\n",
         tally.frames, tally.bad, tally.bytes

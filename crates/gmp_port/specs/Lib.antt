@@ -1,0 +1,2 @@
+-- The ports of the card. Assumes nothing.
+pub mod Port
