@@ -34,8 +34,8 @@ pub record SourceSeen : Type 0 where
   pub frame : List ℕ
   pub kept : SourcePromise (step .call .settings) (step .state) (step .call .next) (step .call .client) (step .call .buffer) result frame
 
--- A call of a sink with the card's tallies, be it of `sink_call`, which is lent them (Lent.antt), or
--- of `count_call` or `lend_call`, which have them by value: their promise is the same.
+-- A call of a sink with the card's tallies, be it of `sink_call`, which is lent them (Lent.antt),
+-- or of `count_call` or `lend_call`, which have them by value: their promise is the same.
 pub record SinkSeen : Type 0 where
   pub step : SinkStep
   pub tallies : Tallies

@@ -40,7 +40,7 @@ use Rattle.gmp_frame.proofs.Laws.{length-client, taken-fits}
 use Rattle.gmp_sink.specs.declared.SinkState.{SinkState}
 use Rattle.gmp_sink.specs.declared.SinkAnswer.the-variants.{Done, Refused}
 use Rattle.gmp_sink.specs.declared.SinkResult.{SinkResult}
-use Rattle.gmp_sink.specs.Sink.{newSink, sinkReasons, sinkRefusal, handed, readingOf, standingBy, standingAfter, wordAfter, stateAfter, isMended, mendedIn, answerMeaning, sinkAnswer, sinkState, sinkMended, sinkHanded, sinkOut, SinkPromise, Accepted, AcceptedPromise, HandsOut, OffAsBefore}
+use Rattle.gmp_sink.specs.Sink.{newSink, sinkReasons, sinkRefusal, handed, readingOf, standingBy, standingAfter, wordAfter, stateAfter, isMended, mendedIn, answerMeaning, sinkAnswer, sinkState, sinkMended, sinkHanded, sinkOut, SinkPromise, AnyPort, Accepted, AcceptedPromise, HandsOut, OffAsBefore}
 
 -- a call that no number turns back, and its port
 accepted-all : (s : Settings) (f o p : ℕ) → sinkRefusal s f o p ≡ 0 → Accepted s f o × (badPort p ≡ false)
@@ -213,6 +213,44 @@ module _ (s : Settings) (z : SinkState) where
           ap (λ (f : Finding). sameList (f .name) BADCHECK) (standing-read s z c r refl)
               ∙ other-by r (sym (mended-read s z c r refl) ∙ sym (mended-accepted s z frame out p none) ∙ m),
         )
+
+-- The port is looked at by number 10 alone.
+module _ (s : Settings) (p q : ℕ) (e : badPort p ≡ badPort q) where
+  any-refusal : (f o : ℕ) → sinkRefusal s f o p ≡ sinkRefusal s f o q
+  unfolding sinkRefusal
+  any-refusal f o = rw e
+
+  any-mended : (frame out : List ℕ) → sinkMended s frame out p ≡ sinkMended s frame out q
+  unfolding sinkMended
+  any-mended frame out = rw (any-refusal (length frame) (length out))
+
+  module _ (z : SinkState) (frame out : List ℕ) where
+    any-answer : sinkAnswer s z frame out p ≡ sinkAnswer s z frame out q
+    unfolding sinkAnswer
+    any-answer = rw (any-refusal (length frame) (length out))
+
+    any-state : sinkState s z frame out p ≡ sinkState s z frame out q
+    unfolding sinkState
+    any-state = rw (any-refusal (length frame) (length out))
+
+    any-handed : sinkHanded s z frame out p ≡ sinkHanded s z frame out q
+    unfolding sinkHanded
+    any-handed = rw (any-refusal (length frame) (length out))
+
+    any-out : sinkOut s z frame out p ≡ sinkOut s z frame out q
+    unfolding sinkOut
+    any-out = ap (λ (l : List ℕ). l ++ drop (length l) out) any-handed
+
+pub any-port : AnyPort
+any-port =
+    record {
+      refusal = λ s f o p q e. any-refusal s p q e f o;
+      answer = λ s z frame out p q e. any-answer s p q e z frame out;
+      state = λ s z frame out p q e. any-state s p q e z frame out;
+      mended = λ s frame out p q e. any-mended s p q e frame out;
+      handed-bytes = λ s z frame out p q e. any-handed s p q e z frame out;
+      out-buffer = λ s z frame out p q e. any-out s p q e z frame out;
+    }
 
 -- With mending off a reading goes by the check alone.
 off-reading : (P : Reading → Type 0) (s : Settings) (c : Control) → s .mending ≡ false → (passes (c .jc1) (c .jc2) (c .jc3) ≡ true → P (Whole (readWord (c .jc1) (c .jc2))))

@@ -136,6 +136,16 @@ pub record SinkPromise (s : Settings) (z : SinkState) (frame out : List ℕ) (po
   pub mended : r .mended ≡ sinkMended s frame out port
   pub out-buffer : after ≡ sinkOut s z frame out port
 
+-- Two ports that number 10 turns back both or neither are alike to a call: it answers, mends, hands
+-- out and leaves the same on the one as on the other.
+pub record AnyPort : Type 0 where
+  pub refusal : (s : Settings) (frameLength outLength p q : ℕ) → badPort p ≡ badPort q → sinkRefusal s frameLength outLength p ≡ sinkRefusal s frameLength outLength q
+  pub answer : (s : Settings) (z : SinkState) (frame out : List ℕ) (p q : ℕ) → badPort p ≡ badPort q → sinkAnswer s z frame out p ≡ sinkAnswer s z frame out q
+  pub state : (s : Settings) (z : SinkState) (frame out : List ℕ) (p q : ℕ) → badPort p ≡ badPort q → sinkState s z frame out p ≡ sinkState s z frame out q
+  pub mended : (s : Settings) (frame out : List ℕ) (p q : ℕ) → badPort p ≡ badPort q → sinkMended s frame out p ≡ sinkMended s frame out q
+  pub handed-bytes : (s : Settings) (z : SinkState) (frame out : List ℕ) (p q : ℕ) → badPort p ≡ badPort q → sinkHanded s z frame out p ≡ sinkHanded s z frame out q
+  pub out-buffer : (s : Settings) (z : SinkState) (frame out : List ℕ) (p q : ℕ) → badPort p ≡ badPort q → sinkOut s z frame out p ≡ sinkOut s z frame out q
+
 -- What is known of a call that no number turns back. Its port is not among it: nothing that is done
 -- then looks at the port.
 pub record Accepted (s : Settings) (frameLength outLength : ℕ) : Type 0 where

@@ -6,7 +6,7 @@ use gmp_refusal::Refusal;
 use gmp_standing::Count;
 use gmp_standing::Standing;
 ghost use mathlib.Core.Path.{_≡_};
-ghost use Rattle.gmp_sink.specs.Sink.{newSink, OffAsBefore};
+ghost use Rattle.gmp_sink.specs.Sink.{newSink, AnyPort, OffAsBefore};
 
 // A known count or none, and a remembered word or none.
 pub struct SinkState {
@@ -44,6 +44,11 @@ pub fn new_sink() -> SinkState
         word: Remembered::Nothing,
     }
 }
+
+// The port has no part in what a call answers, hands out or leaves, but for number 10.
+pub fn any_port()
+    ensures { λ _. ⌜ AnyPort ⌝ }
+{}
 
 // With mending off the control bytes lead where 01's rules lead, and nothing is mended.
 pub fn off_as_before()

@@ -17,7 +17,8 @@ ghost use lib.ListN.{length};
 ghost use Rattle.gmp_standing.specs.Standing.{standingMeaning};
 ghost use Rattle.odu0demap.specs.Demapping.{isMend, newDemapper, sameCount, isSame, isSilent, Goes, GoesOn, DemapsAll, Takes};
 
-// The sink's state, its port's tally, and the number of the last standing, 0 before the first frame.
+// The sink's state, its port's tally, and the number of the last standing, 0 before the first
+// frame.
 struct Demapper {
     state: SinkState,
     tally: Tally,

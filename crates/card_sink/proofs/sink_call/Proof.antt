@@ -1,8 +1,8 @@
--- `card_sink::sink_call` meets its contract: a walk of its code, by hand. The tallies' borrow
--- is opened and read; the output slice is passed on at its own lifetime, share and ghost name; a copy
+-- `card_sink::sink_call` meets its contract: a walk of its code, by hand. The tallies' borrow is
+-- opened and read; the output slice is passed on at its own lifetime, share and ghost name; a copy
 -- of the frame's slice is kept; `count_call`, of which the proof knows only that it meets its
--- contract, is called; of what it returns the tallies are stored, the borrow is closed at them,
--- and the rest is returned. Assumes nothing.
+-- contract, is called; of what it returns the tallies are stored, the borrow is closed at them, and
+-- the rest is returned. Assumes nothing.
 use mathlib.Core.Path.{_≡_, refl, ap}
 use Prim.Native.Nat.{ℕ}
 use mathlib.Core.List.{[], _∷_, List}
@@ -87,8 +87,8 @@ T-vals = LL.vals T.the-type T′.the-laws
 abbrev R-vals : SinkResult → List Val
 R-vals = LL.vals R.the-type R′.the-laws
 
--- the fields of what `count_call` returns: the sink's result at its start, and the tallies 36
--- bytes behind that. The walk names them where it reads a field, since antt would fill them in at length.
+-- the fields of what `count_call` returns: the sink's result at its start, and the tallies 36 bytes
+-- behind that. The walk names them where it reads a field, since antt would fill them in at length.
 abbrev parts : Tys
 parts = tcons R′.mir (tcons T′.mir tnil)
 
