@@ -151,8 +151,9 @@ typedef struct odu0_tally {
 /*
  * The tallies of a card's eight ports, in their order: that of port p is port[p - 1]. The caller
  * keeps them, begins with all 24 numbers at zero, and lends the same tallies to the calls of all
- * the card's sinks, but never to two calls at once: two threads that do so may lose frames,
- * whichever ports they name. ports.c shows a whole card.
+ * the card's sinks, but never to two calls at once, and neither reads nor writes them during a
+ * call: two threads that do so may lose frames, whichever ports they name. ports.c shows a whole
+ * card.
  */
 typedef struct odu0_tallies {
     odu0_tally port[ODU0_PORTS];

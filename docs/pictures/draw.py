@@ -5,9 +5,9 @@
 
 frame.svg is the frame's layout, even.svg how evenly its client bytes lie, control.svg the bits of
 the control bytes, standings.svg the sink as a state machine, recovery.svg the two-frame recovery as
-tests/span.txt has it, ports.svg the tallies of a card as bindings/c/ports.c prints them, and
-crates.svg the groups of crates as crates.txt lists them. With --check nothing is written; the exit
-status is 1 where a stored picture is not the one drawn.
+tests/span.txt has it, ports.svg the tallies of a card as tests/ports.txt has them, and crates.svg
+the groups of crates as crates.txt lists them. With --check nothing is written; the exit status is 1
+where a stored picture is not the one drawn.
 """
 import itertools
 import pathlib
@@ -17,7 +17,7 @@ import sys
 HERE = pathlib.Path(__file__).resolve().parent
 CRATES = HERE.parents[1] / "crates.txt"
 SPAN = HERE.parents[1] / "tests" / "span.txt"
-PORTS = HERE.parents[1] / "bindings" / "c" / "ports.c"
+PORTS = HERE.parents[1] / "tests" / "ports.txt"
 WIDTH = 900
 
 INK, DIM, BAND = "#222", "#777", "#f4f4f4"
@@ -347,21 +347,15 @@ def recovery():
 
 
 def port_tallies():
-    """Frames, BADCHECK frames and bytes of each port, by the numbers that ports.c begins with.
-
-    A new sink hands out nothing for its first frame. Its source stays at one count, so each harmed
-    frame costs just the bytes of the frame after it.
-    """
+    """Frames, BADCHECK frames and bytes of each port, and those of the card."""
     text = PORTS.read_text(encoding="utf-8")
-    given = {name: int(number) for name, number in re.findall(r"\b([A-Z]+) = (\d+)", text)}
-    for port in range(1, 9):
-        bad = given["TO"] - given["FROM"] + 1 if port == given["BAD"] else 0
-        yield given["FRAMES"], bad, given["COUNT"] * (given["FRAMES"] - 1 - bad)
+    rows = re.findall(r"^ *(?:\d|card) +(\d+) +(\d+) +(\d+)$", text, re.M)
+    return [tuple(map(int, row)) for row in rows]
 
 
 def ports():
     """The three numbers of each port of a card, and beneath them the card's total."""
-    p = Picture(WIDTH, 340, "A tally for each port")
+    p = Picture(WIDTH, 358, "A tally for each port")
     p.text(20, 28, "Whose span is bad: the tallies of a card's eight ports, and its total", 15)
     wide, step, left, top, lower = 90, 94, 142, 56, 164
     heights = 46, 70, 94
@@ -370,7 +364,7 @@ def ports():
         p.text(20, top + y, title, 13, fill=DIM)
         p.text(20, lower + y, title, 13, fill=DIM)
 
-    tallies = list(port_tallies())
+    *tallies, total = port_tallies()
     for i, numbers in enumerate(tallies):
         x = left + i * step
         p.box(x, top, wide, 110, HIT if numbers[1] else CLIENT)
@@ -381,15 +375,16 @@ def ports():
     right = left + 7 * step + wide
     p.line([(left, lower + 8), (left, lower + 14), (right, lower + 14), (right, lower + 8)])
     p.box(left, lower + 24, right - left, 88, BAND)
-    for y, number in zip(heights, map(sum, zip(*tallies))):
+    for y, number in zip(heights, total):
         p.text((left + right) / 2, lower + y, f"{number:,}", 13, "middle")
     p.text(left + 14, lower + heights[1], "the card", 13)
 
     notes = (
-        "A call of a sink changes the three numbers of the port that it names, and no other. Each"
+        "An accepted call changes the three numbers of the port that it names, and no other. Each"
         " stops at 4,294,967,295.",
-        "The port with BADCHECK frames is the one whose span is bad. It has handed out less, too: a"
-        " damaged word costs the bytes of the frame after its own.",
+        "The port with BADCHECK frames has the bad span. It has handed out less, too: here each such"
+        " frame costs the bytes of",
+        "one frame; where the count moves it may cost those of two.",
         "The card's total is the sum of the eight, in 64 bits: here the bytes are more than 32 bits"
         " can say.",
     )

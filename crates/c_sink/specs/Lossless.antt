@@ -1,4 +1,5 @@
--- What crosses can be read back: no state, answer, mended bit or tallies are lost on the way out.
+-- What crosses can be read back: no state, answer, mended bit or tallies are lost on the way out,
+-- and the 24 numbers of tallies that nothing changed come back as they were lent.
 -- Assumes nothing.
 use mathlib.Core.Path.{_≡_}
 use mathlib.Core.Bool.{Bool, not, cond}
@@ -41,3 +42,4 @@ pub record Lossless : Type 0 where
   pub refusal : (given : SinkNumbers) (n handed : ℕ) (b : Bool) (z : SinkState) → answerFrom (sinkReplyBy given (refused n) handed b z) ≡ refused n
   pub mended : (given : SinkNumbers) (a : Answer Finding) (handed : ℕ) (b : Bool) (z : SinkState) → mendedFrom (sinkReplyBy given a handed b z) ≡ b
   pub tallies : (y : Tallies) → length (y .ports) ≡ ports → talliesFrom (talliesNumbers y) ≡ y
+  pub numbers : (l : List ℕ) → length l ≡ 24 → talliesNumbers (talliesFrom l) ≡ l

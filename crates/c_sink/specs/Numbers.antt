@@ -3,7 +3,7 @@
 use mathlib.Core.Path.{_≡_}
 use mathlib.Core.Bool.{Bool, cond}
 use mathlib.Core.List.{List, [], _∷_, _++_}
-use Prim.Native.Nat.{ℕ, _+_}
+use Prim.Native.Nat.{ℕ, zero, suc, _+_, _*_}
 use lib.Dec.{eqb}
 use lib.ListN.{length, getD}
 use Rattle.gmp_settings.specs.declared.Settings.{Settings}
@@ -13,6 +13,7 @@ use Rattle.gmp_standing.specs.declared.Count.the-variants.{Known, Unknown}
 use Rattle.gmp_standing.specs.Standing.{Finding, standingNumber}
 use Rattle.gmp_control.specs.declared.Remembered.{Remembered}
 use Rattle.gmp_control.specs.declared.Remembered.the-variants.{Word, Nothing}
+use Rattle.gmp_port.specs.Port.{ports}
 use Rattle.card_tally.specs.declared.Tally.{Tally}
 use Rattle.card_tally.specs.declared.Tallies.{Tallies}
 use Rattle.card_tally.specs.Ports.{tallyOf}
@@ -86,15 +87,21 @@ tallyAt l i = record { frames = getD l i 0; bad = getD l (i + 1) 0; bytes = getD
 abbrev pub tallyNumbers : Tally → List ℕ
 tallyNumbers y = y .frames ∷ y .bad ∷ y .bytes ∷ []
 
--- the tallies as 24 numbers: those of port 1, of port 2, and so on
+-- The tallies as 24 numbers: those of port 1, of port 2, and so on. Of the first n ports, and of
+-- all.
+abbrev pub talliesIn : ℕ → List ℕ → List Tally
+talliesIn zero l = []
+talliesIn (suc n) l = talliesIn n l ++ (tallyAt l (3 * n) ∷ [])
+
 abbrev pub talliesFrom : List ℕ → Tallies
-talliesFrom l =
-    record { ports = tallyAt l 0 ∷ tallyAt l 3 ∷ tallyAt l 6 ∷ tallyAt l 9 ∷ tallyAt l 12 ∷ tallyAt l 15 ∷ tallyAt l 18 ∷ tallyAt l 21 ∷ [] }
+talliesFrom l = record { ports = talliesIn ports l }
+
+abbrev pub numbersOf : ℕ → Tallies → List ℕ
+numbersOf zero y = []
+numbersOf (suc n) y = numbersOf n y ++ tallyNumbers (tallyOf y (suc n))
 
 abbrev pub talliesNumbers : Tallies → List ℕ
-talliesNumbers y =
-    tallyNumbers (tallyOf y 1) ++ tallyNumbers (tallyOf y 2) ++ tallyNumbers (tallyOf y 3) ++ tallyNumbers (tallyOf y 4)
-    ++ tallyNumbers (tallyOf y 5) ++ tallyNumbers (tallyOf y 6) ++ tallyNumbers (tallyOf y 7) ++ tallyNumbers (tallyOf y 8)
+talliesNumbers y = numbersOf ports y
 
 -- What the sink call promises: its reply, every byte of the output buffer, and the 24 numbers of
 -- the tallies.

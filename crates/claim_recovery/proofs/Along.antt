@@ -21,7 +21,7 @@ use Rattle.refusals.specs.Table.{accepted}
 use Rattle.gmp_settings.specs.Grid.{frameBytes}
 use Rattle.gmp_settings.specs.Settings.{outside}
 use Rattle.gmp_standing.specs.declared.Count.{Count}
-use Rattle.gmp_standing.specs.declared.Count.the-variants.{Known, Unknown}
+use Rattle.gmp_standing.specs.declared.Count.the-variants.{Known}
 use Rattle.gmp_standing.specs.Standing.{Finding, finding, READ, TRACKED}
 use Rattle.gmp_standing.specs.Known.{inWindow}
 use Rattle.gmp_control.specs.declared.Remembered.{Remembered}

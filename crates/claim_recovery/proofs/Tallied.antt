@@ -2,17 +2,17 @@
 use mathlib.Core.Path.{_≡_, refl, sym, ap, _∙_, subst, subst⁻¹}
 use mathlib.Core.Bool.{Bool, true, false, true≢false, cond, _&&_}
 use mathlib.Core.List.{List, [], _∷_, cons-ne-nil}
-use Prim.Native.Nat.{ℕ, suc, _+_}
+use Prim.Native.Nat.{ℕ, _+_}
 use native.Mathlib.Numerals.{one-add}
 use lib.Dec.{eqb}
 use lib.ListN.{length}
 use borrow.Author.Tests.{eqb-true, eqb-false}
-use Rattle.refusals.specs.Table.{Answer, accepted}
+use Rattle.refusals.specs.Table.{Answer}
 use Rattle.gmp_standing.specs.Standing.{Finding}
 use Rattle.card_tally.specs.declared.Tally.{Tally}
 use Rattle.card_tally.specs.declared.Tallies.{Tallies}
 use Rattle.card_tally.specs.Tally.{added, Of32Bits}
-use Rattle.card_tally.specs.Ports.{tallyOf, counted, totalOf, OfCard}
+use Rattle.card_tally.specs.Ports.{tallyOf, counted, OfCard}
 use Rattle.card_tally.proofs.Laws.{added-nothing, added-twice, added-32-bits}
 use Rattle.card_tally.proofs.Ports.{own-port-only, total-same}
 use Rattle.gmp_sink.proofs.Laws.{answer-accepted, answer-refused, accepted-port}

@@ -2,7 +2,7 @@
 -- the lent buffers. All that is known of a call is the promise of its contract. Such runs are those
 -- that the claims are about. Assumes nothing.
 use mathlib.Core.Path.{_≡_}
-use mathlib.Core.Bool.{Bool, cond}
+use mathlib.Core.Bool.{cond}
 use mathlib.Core.List.{List, [], _∷_}
 use Prim.Native.Nat.{ℕ}
 use lib.Dec.{eqb}

@@ -1,6 +1,7 @@
--- The card's tallies over the calls of all its sinks (01, "Sink"): ".. is changed where the caller
--- keeps it .. Only accepted sink calls change it"; and 02, P2: "A call changes only its own port's
--- three numbers. The card's total is their sum". Assumes nothing.
+-- The card's tallies over the calls of all its sinks (01, "Sink", of one tally, in whose place 02,
+-- P2 puts eight): ".. is changed where the caller keeps it .. Only accepted sink calls change it";
+-- and P2: "A call changes only its own port's three numbers. The card's total is their sum".
+-- Assumes nothing.
 use mathlib.Core.Path.{_≡_}
 use mathlib.Core.Bool.{Bool, cond, _&&_}
 use mathlib.Core.List.{List, [], _∷_}

@@ -24,7 +24,8 @@ pub fn mending_is_the_sinks()
     ensures { λ _. ⌜ SinksOwn ⌝ }
 {}
 
-// The card's tally is the sum over the accepted calls of all its sinks.
+// Each port's tally is the sum over the accepted calls that named it, of all sinks of a card, and
+// the card's total is the sum of the eight.
 pub fn tally_sums()
     ensures { λ _. ⌜ TallySums ⌝ }
 {}

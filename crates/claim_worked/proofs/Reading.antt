@@ -1,8 +1,8 @@
 -- Every source run can be read. Assumes nothing.
 use mathlib.Core.Path.{_≡_, refl, sym, ap, _∙_, subst}
-use mathlib.Core.Bool.{Bool, true, false, cond}
+use mathlib.Core.Bool.{Bool, cond}
 use mathlib.Core.List.{List, [], _∷_}
-use Prim.Native.Nat.{ℕ, zero, suc, _+_, _-_, _≤_, _<_}
+use Prim.Native.Nat.{ℕ, zero, suc, _+_, _-_, _≤_}
 use native.Mathlib.Nat.{le-of-suc-le-suc}
 use native.Mathlib.Omega.{arith}
 use lib.ListN.{length, drop, replicate, length-replicate, length-drop}
@@ -15,8 +15,8 @@ use Rattle.gmp_source.specs.Source.{sourceReasons, sourceRefusal}
 use Rattle.gmp_source.proofs.Laws.{accepted-knows, frame-accepted, length-of-written}
 use Rattle.gmp_sink.specs.declared.SinkState.{SinkState}
 use Rattle.gmp_sink.specs.Sink.{sinkReasons, sinkRefusal}
-use Rattle.claim_recovery.specs.Runs.{At, Nth, Bytes, SourceCall, SinkCall, SourceStep, SinkStep, sinkAfter, sourceSteps, sinkSteps, frameOf}
-use Rattle.claim_recovery.specs.Demand.{SourceRun, Reads, Unharmed}
+use Rattle.claim_recovery.specs.Runs.{At, Bytes, SinkCall, SourceStep, SinkStep, sinkAfter, sourceSteps, sinkSteps, frameOf}
+use Rattle.claim_recovery.specs.Demand.{Unharmed}
 use Rattle.claim_recovery.proofs.Lists.{Each, at-drop}
 use Rattle.claim_recovery.proofs.Threads.{Link, Chain, chain, chain-drop}
 use Rattle.claim_worked.specs.Readable.{Readable}

@@ -11,7 +11,8 @@ pub fn starred_cases()
     ensures { λ _. ⌜ AllHold starred ⌝ }
 {}
 
-// A worked run, with refused calls, steps of every size and a hit in it.
+// A worked run, with refused calls, steps of every size and a hit in it, and the tallies of its
+// card.
 pub fn worked_run()
     ensures { λ _. ⌜ WorkedRun ⌝ }
 {}

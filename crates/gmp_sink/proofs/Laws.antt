@@ -168,9 +168,9 @@ promise-accepted s z frame out p r after none a =
     record {
       answer = a .answer ∙ sym (answer-accepted s z frame out p none);
       state = a .state ∙ sym (state-accepted s z frame out p none);
-      handed-bytes = a .handed-bytes ∙ sym (ap length (handed-accepted s z frame out p none));
+      handed-bytes = a .hands .length-is ∙ sym (ap length (handed-accepted s z frame out p none));
       mended = a .mended ∙ sym (mended-accepted s z frame out p none);
-      out-buffer = a .out-buffer ∙ sym (out-accepted s z frame out p none);
+      out-buffer = a .hands .buffer ∙ sym (out-accepted s z frame out p none);
     }
 
 -- A call that no number turns back is not refused, and its standing is what the control bytes lead

@@ -1,5 +1,5 @@
 -- The sink (01, "Sink"). Three things are said apart: what is handed out, how the count follows,
--- and, in the crate card_sink, what the tally adds. Assumes nothing.
+-- and, in the crate card_sink, what the tallies add. Assumes nothing.
 use mathlib.Core.Path.{_≡_}
 use mathlib.Core.Bool.{Bool, true, false, not, cond}
 use mathlib.Core.List.{List, [], _∷_, _++_}
@@ -136,8 +136,9 @@ pub record SinkPromise (s : Settings) (z : SinkState) (frame out : List ℕ) (po
   pub mended : r .mended ≡ sinkMended s frame out port
   pub out-buffer : after ≡ sinkOut s z frame out port
 
--- Two ports that number 10 turns back both or neither are alike to a call: it answers, mends, hands
--- out and leaves the same on the one as on the other.
+-- Two ports that number 10 turns back both or neither are alike to a call: its answer, the state
+-- and the output buffer after it, what it mends and hands out are the same on the one as on the
+-- other.
 pub record AnyPort : Type 0 where
   pub refusal : (s : Settings) (frameLength outLength p q : ℕ) → badPort p ≡ badPort q → sinkRefusal s frameLength outLength p ≡ sinkRefusal s frameLength outLength q
   pub answer : (s : Settings) (z : SinkState) (frame out : List ℕ) (p q : ℕ) → badPort p ≡ badPort q → sinkAnswer s z frame out p ≡ sinkAnswer s z frame out q
@@ -154,15 +155,7 @@ pub record Accepted (s : Settings) (frameLength outLength : ℕ) : Type 0 where
   pub space : s .hi ≤ outLength
   pub patterns : badPatterns s ≡ false
 
--- What such a call promises.
-pub record AcceptedPromise (s : Settings) (z : SinkState) (frame out : List ℕ) (r : SinkResult) (after : List ℕ) : Type 0 where
-  pub answer : answerMeaning (r .answer) ≡ accepted (standingAfter s z (controlOf (s .k) frame))
-  pub state : r .state ≡ stateAfter s z (controlOf (s .k) frame)
-  pub handed-bytes : r .handed ≡ length (handed s z frame)
-  pub mended : r .mended ≡ mendedIn s (controlOf (s .k) frame)
-  pub out-buffer : after ≡ handed s z frame ++ drop (length (handed s z frame)) out
-
--- Its parts: bytes handed out at the start of a buffer, with their number;
+-- The parts of such a call: bytes handed out at the start of a buffer, with their number;
 pub record HandsOut (bytes out : List ℕ) (r : ℕ) (after : List ℕ) : Type 0 where
   pub length-is : r ≡ length bytes
   pub buffer : after ≡ bytes ++ drop (length bytes) out
@@ -178,3 +171,10 @@ pub record ReadsControl (s : Settings) (z : SinkState) (c : Control) (r : Heard)
   pub count : r .followed .count ≡ stateAfter s z c .count
   pub word : r .followed .word ≡ stateAfter s z c .word
   pub mended : r .mended ≡ mendedIn s c
+
+-- What the whole call promises.
+pub record AcceptedPromise (s : Settings) (z : SinkState) (frame out : List ℕ) (r : SinkResult) (after : List ℕ) : Type 0 where
+  pub answer : answerMeaning (r .answer) ≡ accepted (standingAfter s z (controlOf (s .k) frame))
+  pub state : r .state ≡ stateAfter s z (controlOf (s .k) frame)
+  pub mended : r .mended ≡ mendedIn s (controlOf (s .k) frame)
+  pub hands : HandsOut (handed s z frame) out (r .handed) after

@@ -45,7 +45,8 @@ pub fn new_sink() -> SinkState
     }
 }
 
-// The port has no part in what a call answers, hands out or leaves, but for number 10.
+// But for number 10 the port has no part in what a call answers, mends and hands out, and in the
+// state and the output buffer after it.
 pub fn any_port()
     ensures { λ _. ⌜ AnyPort ⌝ }
 {}

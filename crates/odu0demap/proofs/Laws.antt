@@ -9,7 +9,7 @@ use lib.ListN.{length, take, drop, set, length-append}
 use lib.Seq.{take-at}
 use Rattle.io.specs.Counts.{Counts}
 use Rattle.gmp_refusal.specs.declared.Refusal.{Refusal}
-use Rattle.refusals.specs.Table.{Answer, accepted}
+use Rattle.refusals.specs.Table.{Answer}
 use Rattle.gmp_settings.specs.declared.Settings.{Settings}
 use Rattle.gmp_standing.specs.declared.Standing.{Standing}
 use Rattle.gmp_standing.specs.Standing.{Finding, standingMeaning, standingNumber}

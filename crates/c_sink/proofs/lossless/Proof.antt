@@ -2,9 +2,8 @@
 use mathlib.Core.Path.{_≡_, refl, sym, ap, ap₂, _∙_}
 use mathlib.Core.Bool.{Bool, true, false}
 use mathlib.Core.List.{List, [], _∷_}
-use Prim.Native.Nat.{ℕ, suc, _<_}
+use Prim.Native.Nat.{ℕ, zero, suc, _+_}
 use native.Mathlib.Omega.{arith}
-use lib.Dec.{lit<}
 use lib.ListN.{length, getD, drop, drop-of-length-le}
 use lib.Seq.{drop-cons}
 use Rattle.refusals.specs.Table.{Answer, accepted, refused}
@@ -15,13 +14,12 @@ use Rattle.gmp_standing.specs.declared.Standing.the-variants.{Read, Tracked, Pa
 use Rattle.gmp_standing.specs.Standing.{Finding, standingMeaning}
 use Rattle.gmp_control.specs.declared.Remembered.{Remembered}
 use Rattle.gmp_control.specs.declared.Remembered.the-variants.{Word, Nothing}
-use Rattle.gmp_port.specs.Port.{ports}
 use Rattle.card_tally.specs.declared.Tally.{Tally}
 use Rattle.card_tally.specs.declared.Tallies.{Tallies}
 use Rattle.card_tally.specs.Ports.{noTally}
 use Rattle.gmp_sink.specs.declared.SinkState.{SinkState}
 use Rattle.c_sink.specs.declared.SinkNumbers.{SinkNumbers}
-use Rattle.c_sink.specs.Numbers.{countFrom, countFlag, countValue, wordFrom, wordFlag, wordValue, stateFrom, stateNumbers, sinkReplyBy, talliesFrom, talliesNumbers}
+use Rattle.c_sink.specs.Numbers.{countFrom, countFlag, countValue, wordFrom, wordFlag, wordValue, stateFrom, stateNumbers, sinkReplyBy}
 use Rattle.c_sink.specs.Lossless.{answerFrom, mendedFrom}
 use Rattle.c_sink.proofs.lossless.Statement.{statement}
 use Rattle.c_sink.proofs.lossless.Tie as tie
@@ -52,19 +50,27 @@ mended-back given (accepted f) handed false z = refl
 mended-back given (refused n) handed true z = refl
 mended-back given (refused n) handed false z = refl
 
--- a list of eight is its elements, one after the other
-module _ (l : List Tally) (eight : length l ≡ ports) where
-  from-place : (i : ℕ) (rest : List Tally) → i < 8 → drop (suc i) l ≡ rest → drop i l ≡ getD l i noTally ∷ rest
-  from-place i rest h e = drop-cons l i noTally (omega (arith, h, eight)) ∙ ap (λ (t : List Tally). getD l i noTally ∷ t) e
+-- a list is its elements, one after the other: those from place i on, k of them
+module _ {A : Type 0} (d : A) (l : List A) where
+  abbrev from-place : ℕ → ℕ → List A
+  from-place i zero = []
+  from-place i (suc k) = getD l i d ∷ from-place (suc i) k
 
-  one-by-one : l ≡ talliesFrom (talliesNumbers (record { ports = l })) .ports
-  one-by-one =
-      from-place 0 _ (lit< tt) (from-place 1 _ (lit< tt) (from-place 2 _ (lit< tt) (from-place 3 _ (lit< tt)
-      (from-place 4 _ (lit< tt) (from-place 5 _ (lit< tt) (from-place 6 _ (lit< tt) (from-place 7 [] (lit< tt) (drop-of-length-le l {i = 8} (omega (arith, eight))))))))))
+  elements : (i k : ℕ) → i + k ≡ length l → drop i l ≡ from-place i k
+  elements i zero e = drop-of-length-le l {i = i} (omega (arith, e))
+  elements i (suc k) e =
+      drop-cons l i d (omega (arith, e)) ∙ ap (λ (t : List A). getD l i d ∷ t) (elements (suc i) k (omega (arith, e)))
 
 returns : tie.Need-returns
 returns c =
-    record { state = state-back; standing = standing-back; refusal = λ given n handed b z. refl; mended = mended-back; tallies = λ y eight. ap {B = Tallies} (λ (l : List Tally). record { ports = l }) (sym (one-by-one (y .ports) eight)) }
+    record {
+      state = state-back;
+      standing = standing-back;
+      refusal = λ given n handed b z. refl;
+      mended = mended-back;
+      tallies = λ y eight. ap {B = Tallies} (λ (l : List Tally). record { ports = l }) (sym (elements noTally (y .ports) 0 8 (omega (arith, eight))));
+      numbers = λ l many. sym (elements 0 l 0 24 (omega (arith, many)));
+    }
 
 pub lossless-spec : {M : Type 1} → statement M
 lossless-spec = tie.close (tie.spec returns)

@@ -4,7 +4,7 @@ use Prim.Native.Nat.{ℕ}
 use borrow.Author.Needs.{needs}
 use Rattle.refusals.specs.Table.{Answer}
 use Rattle.gmp_standing.specs.Standing.{Finding}
-use Rattle.gmp_sink.specs.Sink.{answerMeaning, sinkAnswer}
+use Rattle.gmp_sink.specs.Sink.{sinkAnswer}
 use Rattle.card_sink.specs.Card.{talliesBy, talliesAfter}
 use Rattle.card_sink.proofs.count_call.Statement.{statement}
 use Rattle.card_sink.proofs.count_call.Tie as tie

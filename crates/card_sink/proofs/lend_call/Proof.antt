@@ -33,7 +33,7 @@ use denote.Builtin.{u8, u32}
 use denote.Ref.{RefT, MutRef}
 use denote.Slice.{sliceVal, ShrSlice, MutSlice, Room, finally, slice-vals, mut-slice-tells, shr-slice-tells, shr-slice-lawful, shr-slice-copy}
 use denote.Signature.{plain}
-use denote.Steps.{only, owned, peeks, facts, heard, nothing}
+use denote.Steps.{only, owned, facts, heard, nothing}
 use denote.Struct.Steps.{spelt}
 use denote.Struct.Laws as LL
 use denote.Triple.Statement.{Contract, Triple}

@@ -1,5 +1,4 @@
 -- `card_tally::add_frame` meets its contract. Assumes nothing.
-use mathlib.Core.Path.{_≡_}
 use borrow.Author.Needs.{needs}
 use Rattle.card_tally.specs.Tally.{added}
 use Rattle.card_tally.proofs.add_frame.Statement.{statement}

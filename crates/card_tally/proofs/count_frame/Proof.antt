@@ -1,5 +1,5 @@
 -- `card_tally::count_frame` meets its contract. Assumes nothing.
-use mathlib.Core.Path.{_≡_, _∙_, sym}
+use mathlib.Core.Path.{_∙_, sym}
 use borrow.Author.Needs.{needs}
 use Rattle.card_tally.proofs.Ports.{counted-none, counted-at}
 use Rattle.card_tally.proofs.count_frame.Statement.{statement}

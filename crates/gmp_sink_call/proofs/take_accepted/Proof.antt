@@ -26,13 +26,11 @@ returns c =
     let z = g .state in
     let control = c .before .before .before .before .before .before .control-of .ensures in
     let reads = c .before .before .before .before .before .read-control .ensures in
-    let hands = c .before .before .hand-out .ensures in
     record {
       answer = ap accepted (reads .standing ∙ ap (standingAfter s z) control);
       state = state-of-parts _ _ _ (reads .count) (reads .word) ∙ ap (stateAfter s z) control;
-      handed-bytes = hands .length-is;
       mended = reads .mended ∙ ap (mendedIn s) control;
-      out-buffer = hands .buffer;
+      hands = c .before .before .hand-out .ensures;
     }
 
 pub take-accepted-spec : {M : Type 1} → statement M

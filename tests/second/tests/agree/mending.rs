@@ -4,7 +4,7 @@
 use crate::both::{cases, settings_of, Case, Lent};
 use crate::fields::fields_of;
 use crate::given::*;
-use crate::runs::{source_run, watch, Written};
+use crate::runs::{off_the_card, source_run, watch, Written};
 use odu0::ffi;
 use second::{check, read, word, Keeper, Random, Settings, Sink, Source, Standing, Taken, Tally};
 
@@ -272,6 +272,7 @@ fn the_count_is_kept(case: &mut Case, settings: Settings, frames: usize) {
         let mut out = before.clone();
         if random.once_in(16) {
             assert_eq!(case.sink(on, &mut sink, &frame[1..], &mut out, &mut tally), Err(8));
+            assert_eq!(off_the_card(case, on, &mut sink, &frame, &mut out), Err(10));
             let refused = on.with_patterns(broken(&mut case.random));
             assert_eq!(case.sink(refused, &mut sink, &frame, &mut out, &mut tally), Err(14));
         }

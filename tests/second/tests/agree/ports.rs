@@ -4,7 +4,7 @@
 use crate::both::{all_cases, cases, Case, LentCard};
 use crate::fields::fields_of;
 use crate::given::*;
-use crate::runs::{harm, source_run, watch, Written};
+use crate::runs::{harm, off_the_card, source_run, watch, Written};
 use odu0::ffi;
 use second::{Card, Random, Settings, Sink, Standing, Taken, Tally, PORTS};
 
@@ -323,8 +323,8 @@ fn cards_of_many_sinks() {
 }
 
 /// A sink that names any port from call to call: after two unharmed frames in succession it holds
-/// the source's count, and each further one is handed out whole. Each frame is counted on the port
-/// that was named for it.
+/// the source's count, and each further one is handed out whole, calls on ports that the card does
+/// not have among them. Each frame is counted on the port that was named for it.
 fn recovers_from_port_to_port(case: &mut Case, settings: Settings, frames: usize) {
     let written = source_run(case, settings, frames);
     let (mut sink, mut card) = (any_sink(&mut case.random, settings), Card::new());
@@ -338,6 +338,9 @@ fn recovers_from_port_to_port(case: &mut Case, settings: Settings, frames: usize
         clean = if frame == *sent { clean + 1 } else { 0 };
         let port = case.random.from_to(1, PORTS);
         let mut out = case.random.bytes(settings.hi as usize);
+        if case.random.once_in(4) {
+            assert_eq!(off_the_card(case, settings, &mut sink, &frame, &mut out), Err(10));
+        }
         let taken = case.sink_on(settings, &mut sink, &frame, &mut out, port, &mut card).unwrap();
         taken_on[port as usize - 1] += 1;
         if clean >= 2 {

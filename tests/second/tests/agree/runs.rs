@@ -2,7 +2,7 @@
 
 use crate::both::{all_cases, cases, Case};
 use crate::given::*;
-use second::{word, Random, Settings, Sink, Standing, Taken, Tally};
+use second::{word, Card, Random, Settings, Sink, Standing, Taken, Tally};
 
 /// A frame as an accepted source call wrote it.
 pub struct Written {
@@ -102,8 +102,21 @@ fn arrivals(random: &mut Random, frames: usize, trouble: u64) -> Vec<usize> {
     order
 }
 
-/// One source and three sinks with one tally, over a line that harms, loses, doubles and reorders
-/// frames.
+/// A call that names a port that the card does not have.
+pub fn off_the_card(
+    case: &mut Case,
+    settings: Settings,
+    sink: &mut Sink,
+    frame: &[u8],
+    out: &mut [u8],
+) -> Result<Taken, u32> {
+    let mut card = Card::with(any_tallies(&mut case.random));
+    let port = wrong_port(&mut case.random);
+    case.sink_on(settings, sink, frame, out, port, &mut card)
+}
+
+/// One source and three sinks that are counted together, over a line that harms, loses, doubles and
+/// reorders frames.
 pub fn rough_line(case: &mut Case, settings: Settings, frames: usize) {
     let written = source_run(case, settings, frames);
     let mut tally =
@@ -119,7 +132,7 @@ pub fn rough_line(case: &mut Case, settings: Settings, frames: usize) {
                 harm(case, settings, &mut frame);
             }
             if case.random.once_in(16) {
-                let refused = match case.random.below(3) {
+                let refused = match case.random.below(4) {
                     0 if settings.hi > 0 => {
                         let short = settings.hi as usize - 1;
                         case.sink(settings, &mut state, &frame, &mut out[..short], &mut tally)
@@ -128,6 +141,7 @@ pub fn rough_line(case: &mut Case, settings: Settings, frames: usize) {
                         let settings = settings.with_patterns(broken(&mut case.random));
                         case.sink(settings, &mut state, &frame, &mut out, &mut tally)
                     }
+                    2 => off_the_card(case, settings, &mut state, &frame, &mut out),
                     _ => case.sink(settings, &mut state, &frame[1..], &mut out, &mut tally),
                 };
                 assert!(refused.is_err());
@@ -213,6 +227,7 @@ pub fn back_after_two_frames(case: &mut Case, settings: Settings, frames: usize)
             let mut out = before.clone();
             if case.random.once_in(16) {
                 assert_eq!(case.sink(settings, sink, &frame[1..], &mut out, &mut tally), Err(8));
+                assert_eq!(off_the_card(case, settings, sink, frame, &mut out), Err(10));
                 let wrong = settings.with_patterns(broken(&mut case.random));
                 assert_eq!(case.sink(wrong, sink, frame, &mut out, &mut tally), Err(14));
             }
@@ -260,6 +275,7 @@ pub fn no_false_count(case: &mut Case, settings: Settings, frames: usize) {
         }
         if random.once_in(16) {
             assert_eq!(case.sink(settings, &mut sink, &frame[1..], &mut out, &mut tally), Err(8));
+            assert_eq!(off_the_card(case, settings, &mut sink, &frame, &mut out), Err(10));
             let wrong = settings.with_patterns(broken(&mut case.random));
             assert_eq!(case.sink(wrong, &mut sink, &frame, &mut out, &mut tally), Err(14));
         }
