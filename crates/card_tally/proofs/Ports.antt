@@ -6,9 +6,8 @@ use Prim.Native.Nat.{ℕ, zero, suc, _+_, _-_, _*_, _≤_, _<_}
 use native.Mathlib.Omega.{arith}
 use lib.ListN.{length, getD, set, length-set}
 use lib.Seq.{getD-set-same, getD-set-other}
-use borrow.Author.Tests.{ne-eqb, le-ltb}
 use Rattle.gmp_port.specs.Port.{ports, badPort}
-use Rattle.gmp_port.proofs.Laws.{within-ports}
+use Rattle.gmp_port.proofs.Laws.{within-ports, good-port}
 use Rattle.card_tally.specs.declared.Tally.{Tally}
 use Rattle.card_tally.specs.declared.Tallies.{Tallies}
 use Rattle.card_tally.specs.declared.Total.{Total}
@@ -16,7 +15,7 @@ use Rattle.card_tally.specs.Tally.{largest, added}
 use Rattle.card_tally.specs.Ports.{noTally, tallyOf, counted, sumTo, totalBy, totalOf, Adds, Leaves, OwnPortOnly}
 
 module _ (y : Tallies) (p frames bad bytes : ℕ) where
-  -- a port that the card has not changes nothing
+  -- a port that the card does not have changes nothing
   pub counted-none : badPort p ≡ true → counted y p frames bad bytes ≡ y
   unfolding counted
   counted-none e = rw e
@@ -57,17 +56,12 @@ others y p q frames bad bytes ne = by (badPort p) refl (badPort q) refl
         let s = getD-set-other (y .ports) (p - 1) (q - 1) (added (getD (y .ports) (p - 1) noTally) frames bad bytes) noTally far in
         rw (e, f, s)
 
--- the port at place i, from 0, is port i + 1
-port-at : (i : ℕ) → i < ports → badPort (i + 1) ≡ false
-port-at i h =
-    let far : i + 1 ≡ 0 → ⊥ = λ e. omega (arith, e) in
-    let near : i + 1 ≤ ports = omega (arith, h) in
-    simp (ne-eqb (i + 1) 0 far, le-ltb ports (i + 1) near)
-
-pub tally-at : (y : Tallies) (i : ℕ) → i < ports → tallyOf y (i + 1) ≡ getD (y .ports) i noTally
+-- the tally at place i, from 0, is that of port i + 1
+tally-at : (y : Tallies) (i : ℕ) → i < ports → tallyOf y (i + 1) ≡ getD (y .ports) i noTally
 tally-at y i h =
     let back : i + 1 - 1 ≡ i = omega arith in
-    rw (port-at i h, back)
+    let near : i + 1 ≤ ports = omega (arith, h) in
+    rw (good-port (i + 1) (omega arith) near, back)
 
 -- n is the sum of a number over the first i ports, and eight of 32 bits leave room in 64
 pub record Sums (number : Tally → ℕ) (y : Tallies) (i n : ℕ) : Type 0 where

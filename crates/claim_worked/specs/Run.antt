@@ -1,10 +1,10 @@
 -- A run on the grid K = 2 with the window 0 to 8: a source with steps of every size, read by a new
 -- sink, by a sink that knows a false count and a false word, and by a new sink over a hit; refused
--- calls stand in all. The three share a card, each on a port of its own; the last one moves to
--- another. Assumes nothing.
+-- calls stand in all. The three share a card, call in turn, and each has a port of its own; the
+-- last one moves to another. Assumes nothing.
 use mathlib.Core.Path.{_≡_, refl, sym, subst}
 use mathlib.Core.Bool.{Bool, true, false, cond}
-use mathlib.Core.List.{List, [], _∷_, _++_}
+use mathlib.Core.List.{List, [], _∷_}
 use Prim.Native.Nat.{ℕ, _<_}
 use lib.Dec.{T, ltb, ltb→lt}
 use lib.ListN.{replicate}
@@ -149,9 +149,15 @@ abbrev pub made : SinkState → List SinkCall → List SinkStep
 made z [] = []
 made z (c ∷ cs) = let y : SinkStep = record { call = c; state = z } in y ∷ made (sinkAfter y) cs
 
+-- calls in turn, one of the first list and one of the second
+abbrev pub inTurn : List SinkStep → List SinkStep → List SinkStep
+inTurn [] ys = ys
+inTurn (x ∷ xs) [] = x ∷ xs
+inTurn (x ∷ xs) (y ∷ ys) = x ∷ y ∷ inTurn xs ys
+
 -- the calls of the three on one card
 abbrev pub onCard : List SinkStep
-onCard = made newSink fromFirst ++ made lost fromAny ++ made newSink noisy
+onCard = inTurn (made newSink fromFirst) (inTurn (made lost fromAny) (made newSink noisy))
 
 abbrev pub tally : ℕ → ℕ → ℕ → Tally
 tally frames bad bytes = record { frames = frames; bad = bad; bytes = bytes }
