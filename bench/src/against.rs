@@ -1,9 +1,10 @@
 //! The library of one commit beside that of another, both loaded at once. `bench/against` makes
-//! them. Both must take the settings, the port and the tallies of this tree's odu0.h.
+//! them. Both must take the settings, the states, what a call is told, the port and the tallies as
+//! this tree's odu0.h has them.
 
-use crate::{race, Job};
+use crate::{race, Job, TOLD};
 use odu0::ffi::{Settings, Sink, SinkReply, SourceReply};
-use odu0::{Source, Tallies};
+use odu0::{Expected, Source, Tallies};
 use std::cell::RefCell;
 use std::ffi::{c_char, c_int, c_void, CString};
 use std::hint::black_box;
@@ -15,6 +16,7 @@ type SourceCall =
 type SinkCall = unsafe extern "C" fn(
     Settings,
     Sink,
+    Expected,
     *const u8,
     usize,
     *mut u8,
@@ -77,13 +79,14 @@ impl Library {
 
     fn sink(&self, job: &Job, out: &mut [u8], tallies: &mut Tallies) {
         let (count, frame) = (job.client.len() as u32, black_box(&job.frame[..]));
-        let state = Sink { known: 1, count, remembered: 0, word: 0 };
+        let state = Sink::from(&job.sink());
         let out = black_box(out);
         let (at, length) = (out.as_mut_ptr(), out.len());
         let settings = Settings::from(job.settings);
         let (from, bytes) = (frame.as_ptr(), frame.len());
         // SAFETY: the buffers and the tallies are live and do not overlap.
-        let reply = unsafe { (self.sink)(settings, state, from, bytes, at, length, 1, tallies) };
+        let reply =
+            unsafe { (self.sink)(settings, state, TOLD, from, bytes, at, length, 1, tallies) };
         assert_eq!((reply.refusal, reply.handed), (0, count));
     }
 }

@@ -1,12 +1,12 @@
 //! Times the proved source call and sink call on frames beside plain and fast versions that nobody
-//! proved, the sink call with mending on beside that with mending off and on eight ports beside
-//! that on one, and the card's total beside a loop in C, in one run, as ratios. All versions are
-//! first seen to agree, and with the argument `check` that is all. With `against`, two libraries
-//! are timed beside each other instead.
+//! proved, the sink call with mending on beside that with mending off, with the type check on
+//! beside that with it off and on eight ports beside that on one, and the card's total beside a
+//! loop in C, in one run, as ratios. All versions are first seen to agree, and with the argument
+//! `check` that is all. With `against`, two libraries are timed beside each other instead.
 
 mod against;
 
-use odu0::{Settings, Sink, Source, Tallies, Tally, Total, PORTS};
+use odu0::{Expected, Settings, Sink, Source, Tallies, Tally, Total, PORTS};
 use std::cell::{Cell, RefCell};
 use std::hint::black_box;
 use std::time::Instant;
@@ -67,6 +67,10 @@ fn rust_take(frame: &[u8], out: &mut [u8], k: usize, c: usize) {
     });
 }
 
+/// What the calls are told: that the frame is numbered 0, as it is, and its type. With the type
+/// check off nothing is looked at in it.
+const TOLD: Expected = Expected { multiframe: 0, payload_type: 7 };
+
 /// A grid with a count: the frame that the library writes for it, with its client bytes.
 struct Job {
     settings: Settings,
@@ -111,21 +115,39 @@ impl Job {
             runs_take(self.frame.as_ptr(), outs[1].as_mut_ptr(), k, c);
         }
         rust_take(&self.frame, &mut outs[2], k, c);
-        let mut sink = Sink { count: Some(c as u32), word: None };
-        sink.call(self.settings, &self.frame, &mut outs[3], 1, &mut Tallies::new()).unwrap();
+        let mut sink = self.sink();
+        sink.call(self.settings, TOLD, &self.frame, &mut outs[3], 1, &mut Tallies::new()).unwrap();
         assert!(outs.iter().all(|o| o[..c] == self.client[..]), "taking differs: k {k}, count {c}");
         self.agree_mended(&mut outs[0]);
+        self.agree_typed(&mut outs[0]);
+    }
+
+    /// A sink that holds the frame's count.
+    fn sink(&self) -> Sink {
+        Sink { count: Some(self.client.len() as u32), ..Sink::new() }
+    }
+
+    /// With the type check on the fourth frame is taken, and the three before it are not.
+    fn agree_typed(&self, out: &mut [u8]) {
+        let (on, mut sink, count) =
+            (self.settings.with_type_check(), self.sink(), self.client.len());
+        for frame in 1..=4 {
+            out.fill(0);
+            let taken = sink.call(on, TOLD, &self.frame, out, 1, &mut Tallies::new()).unwrap();
+            let handed = if frame == 4 { count } else { 0 };
+            assert_eq!(taken.handed as usize, handed, "k {}, count {count}, frame {frame}", on.k);
+            assert!(out[..handed] == self.client[..handed], "k {}, count {count}", on.k);
+        }
     }
 
     /// With mending on the frame is taken as well, and also with each of its control bits wrong.
     fn agree_mended(&self, out: &mut [u8]) {
         let (on, count) = (self.settings.with_mending(), self.client.len() as u32);
-        let mut sink = Sink { count: Some(count), word: None };
-        let mut frame = self.frame.clone();
+        let (mut sink, mut frame) = (self.sink(), self.frame.clone());
         for wrong in (0..24).map(Some).chain([None]) {
             out.fill(0);
             self.turn_over(&mut frame, wrong);
-            let taken = sink.call(on, &frame, out, 1, &mut Tallies::new()).unwrap();
+            let taken = sink.call(on, TOLD, &frame, out, 1, &mut Tallies::new()).unwrap();
             self.turn_over(&mut frame, wrong);
             assert_eq!((taken.mended, sink.count), (wrong.is_some(), Some(count)), "{wrong:?}");
             assert!(out.starts_with(&self.client), "k {}, count {count}, {wrong:?}", on.k);
@@ -177,11 +199,10 @@ fn measure(job: &Job) -> ([f64; 5], [f64; 5]) {
     let mut outs = [(); 5].map(|_| vec![0u8; 4 * k + 8]);
     let [o0, o1, o2, o3, o4] = &mut outs;
     let frame = &job.frame[..];
-    let mut sink = Sink { count: Some(c as u32), word: None };
-    let mut tallies = Tallies::new();
+    let (mut sink, mut tallies) = (job.sink(), Tallies::new());
     let take = race([
         Box::new(|| {
-            sink.call(s, black_box(frame), black_box(o0), 1, &mut tallies).unwrap();
+            sink.call(s, TOLD, black_box(frame), black_box(o0), 1, &mut tallies).unwrap();
         }),
         Box::new(|| unsafe {
             loop_take(black_box(frame).as_ptr(), black_box(&mut *o1).as_mut_ptr(), k, c)
@@ -199,8 +220,7 @@ fn measure(job: &Job) -> ([f64; 5], [f64; 5]) {
 /// each frame has a wrong bit, each of the 24 in turn. All three are lent the same buffers.
 fn measure_mending(job: &Job) -> [f64; 3] {
     let (off, on) = (job.settings, job.settings.with_mending());
-    let sink = RefCell::new(Sink { count: Some(job.client.len() as u32), word: None });
-    let frame = RefCell::new(job.frame.clone());
+    let (sink, frame) = (RefCell::new(job.sink()), RefCell::new(job.frame.clone()));
     let out = RefCell::new(vec![0; job.settings.hi as usize]);
     let (tallies, turn) = (RefCell::new(Tallies::new()), Cell::new(0));
     let take = |settings: Settings, wrong: Option<usize>| {
@@ -208,7 +228,7 @@ fn measure_mending(job: &Job) -> [f64; 3] {
         job.turn_over(&mut frame, wrong);
         let (mut out, mut tallies) = (out.borrow_mut(), tallies.borrow_mut());
         let (from, to) = (black_box(&frame[..]), black_box(&mut out[..]));
-        let taken = sink.borrow_mut().call(settings, from, to, 1, &mut tallies).unwrap();
+        let taken = sink.borrow_mut().call(settings, TOLD, from, to, 1, &mut tallies).unwrap();
         assert_eq!(taken.mended, wrong.is_some());
         job.turn_over(&mut frame, wrong);
     };
@@ -222,10 +242,33 @@ fn measure_mending(job: &Job) -> [f64; 3] {
     ])
 }
 
+/// The times of the sink: with the type check off; with it on where the type is accepted, and each
+/// frame is judged; and where another type is expected, so that nothing is handed out. All three
+/// are lent the same buffers.
+fn measure_types(job: &Job) -> [f64; 3] {
+    let (off, on) = (job.settings, job.settings.with_type_check());
+    let other = Expected { payload_type: 5, ..TOLD };
+    let sink = RefCell::new(Sink { accepted: Some(7), ..job.sink() });
+    let out = RefCell::new(vec![0; job.settings.hi as usize]);
+    let tallies = RefCell::new(Tallies::new());
+    let take = |settings: Settings, told: Expected, handed: usize| {
+        let (mut out, mut tallies) = (out.borrow_mut(), tallies.borrow_mut());
+        let (from, to) = (black_box(&job.frame[..]), black_box(&mut out[..]));
+        let taken = sink.borrow_mut().call(settings, told, from, to, 1, &mut tallies).unwrap();
+        assert_eq!(taken.handed as usize, handed);
+    };
+    let count = job.client.len();
+    race([
+        Box::new(|| take(off, TOLD, count)),
+        Box::new(|| take(on, TOLD, count)),
+        Box::new(|| take(on, other, 0)),
+    ])
+}
+
 /// The times of the sink on one port, and on each of the eight in turn. Both are lent the same
 /// buffers and tallies.
 fn measure_ports(job: &Job) -> [f64; 2] {
-    let sink = RefCell::new(Sink { count: Some(job.client.len() as u32), word: None });
+    let sink = RefCell::new(job.sink());
     let out = RefCell::new(vec![0; job.settings.hi as usize]);
     let (tallies, turn) = (RefCell::new(Tallies::new()), Cell::new(0));
     let take = |ports: u32| {
@@ -233,7 +276,7 @@ fn measure_ports(job: &Job) -> [f64; 2] {
         let (mut out, mut tallies) = (out.borrow_mut(), tallies.borrow_mut());
         let (from, to) = (black_box(&job.frame[..]), black_box(&mut out[..]));
         let port = 1 + turn.get();
-        sink.borrow_mut().call(job.settings, from, to, port, &mut tallies).unwrap();
+        sink.borrow_mut().call(job.settings, TOLD, from, to, port, &mut tallies).unwrap();
     };
     race([Box::new(|| take(1)), Box::new(|| take(PORTS))])
 }
@@ -305,6 +348,16 @@ fn main() {
             format!("  K = {k}, {count}"),
             whole / off,
             wrong / off
+        );
+    }
+    println!("sink call with the type check on:");
+    for (k, count) in [(3808, 14407), (119, 450), (1, 4), (1, 0)] {
+        let [off, typed, other] = measure_types(&Job::new(k, count));
+        println!(
+            "{:<28} {typed:>9.0} ns   {:.2} of the type check off, {:.2} where another is expected",
+            format!("  K = {k}, {count}"),
+            typed / off,
+            other / off
         );
     }
     println!("sink call on each port in turn:");

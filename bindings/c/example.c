@@ -28,6 +28,8 @@ static const char *name(uint32_t standing)
 int main(void)
 {
     const odu0_settings opu0 = ODU0_OPU0;
+    /* The type check is off: any type may be expected. */
+    const odu0_expected any = {0, 0};
     odu0_tallies tallies = {{{0, 0, 0}}};
     odu0_sink sink = odu0_sink_new();
     odu0_sink_reply taken;
@@ -65,7 +67,8 @@ int main(void)
         /* The state that a call returns goes into the next call. */
         if (n < FROM)
             continue;
-        taken = odu0_sink_call(opu0, sink, frame, sizeof frame, out, sizeof out, PORT, &tallies);
+        taken = odu0_sink_call(opu0, sink, any, frame, sizeof frame, out, sizeof out, PORT,
+                               &tallies);
         sink = taken.state;
         if (taken.refusal != ODU0_ACCEPTED)
             return 1;
@@ -80,7 +83,8 @@ int main(void)
            (unsigned long)tally.bad, (unsigned long)tally.bytes);
 
     /* A frame that is one byte short is turned back, and changes nothing. */
-    taken = odu0_sink_call(opu0, sink, frame, sizeof frame - 1, out, sizeof out, PORT, &tallies);
+    taken = odu0_sink_call(opu0, sink, any, frame, sizeof frame - 1, out, sizeof out, PORT,
+                           &tallies);
     printf("a frame of %lu bytes: refusal %lu\n", (unsigned long)(sizeof frame - 1),
            (unsigned long)taken.refusal);
     return 0;

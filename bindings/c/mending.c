@@ -36,6 +36,8 @@ static const char *name(uint32_t standing)
 static int job(odu0_settings settings)
 {
     const odu0_settings opu0 = ODU0_OPU0;
+    /* The type check is off: any type may be expected. */
+    const odu0_expected any = {0, 0};
     odu0_tallies tallies = {{{0, 0, 0}}};
     odu0_tally tally;
     odu0_sink sink = odu0_sink_new();
@@ -66,7 +68,7 @@ static int job(odu0_settings settings)
         for (row = 0; row < 3; row++)
             frame[row * 3810 + 1] ^= wrong[n - 1][row];
 
-        taken = odu0_sink_call(settings, sink, frame, sizeof frame, out, sizeof out, PORT,
+        taken = odu0_sink_call(settings, sink, any, frame, sizeof frame, out, sizeof out, PORT,
                                &tallies);
         sink = taken.state;
         if (taken.refusal != ODU0_ACCEPTED)

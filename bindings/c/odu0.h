@@ -52,8 +52,9 @@ enum odu0_standing {
 /*
  * The settings: k payload columns in a row (1 to 3,808); the window of counts lo to hi, hi at most
  * 4 * k; the inversion patterns, with which a control word says that the count changes by +1, -1,
- * +2 or -2; and whether a sink mends one wrong control bit. A source and its sinks need the same k,
- * window and patterns; only the sink's call looks at `mending`.
+ * +2 or -2; whether a sink mends one wrong control bit; and whether it checks the payload type. A
+ * source and its sinks need the same k, window and patterns; only the sink's call looks at
+ * `mending` and `type_check`.
  *
  * Where `given` is 0 the patterns are the standard's, whatever the four numbers after it are, and
  * are never refused. Where it is any other value the four numbers are the patterns. Each is of 14
@@ -69,14 +70,44 @@ enum odu0_standing {
  * control bit then costs the count and the remembered word, and two clean frames are needed to be
  * sure of a count again.
  *
+ * Where `type_check` is 0 it is off, and any other value says that it is on; none is refused. With
+ * it off the type does not matter, and what a sink remembers of types stays as it is. With it on a
+ * call is told the frame's multiframe number and the type that is expected. In frames numbered 0
+ * the PSI byte is read, the first byte of row 4. The same type in three such frames running, as the
+ * sink takes them, becomes the accepted type; until then the earlier one, or none, stands. While
+ * the accepted type is none or not the expected one, no bytes are handed out, but counts are
+ * followed and frames are tallied as ever. A frame's PSI byte is judged after its own bytes have or
+ * have not been handed out, that of an ODU0_BADCHECK frame too. Refused calls, and calls with the
+ * type check off, are none of the three and do not end a run of them.
+ *
+ * What is accepted does not age: a type that was accepted before the type check was turned off
+ * counts as soon as it is on again. So where the first call gets the state of a new sink, and each
+ * other the state that the call before it returned, a call with the type check on hands out
+ * nothing, unless the last type that three frames numbered 0 running had, of those that the sink
+ * took with the type check on before this frame, is the one that the call expects: of a client of
+ * another type nothing, as long as no three such PSI bytes running say the expected type. A sink
+ * that has accepted the expected type, and whose cord is then swapped, may hand out the other
+ * client's bytes until three frames numbered 0 with the other type have come. Those are 768 frames
+ * at most where they come unharmed and in succession and are told with their own numbers, since any
+ * 768 such hold three numbered 0. Two clients of one type are not told apart.
+ *
  * What follows holds where each call gets the state that the call before it returned, and where the
- * accepted calls have the settings of one source, `mending` apart, which is the same in all of
- * them, and take its frames one after the other, without a restart, none missing, doubled or out of
- * its turn. A new sink never holds a false count while no frame that it reads has more than three
- * wrong control bits with mending off, or more than two with mending on. With mending on, a sink
- * that holds the source's count and reads frames each with at most one wrong control bit and its
- * other bytes unharmed keeps the count and hands out each load exactly; and one in any state holds
- * the count after two such frames.
+ * accepted calls have the settings of one source, `mending` and `type_check` apart, which are the
+ * same in all of them, and take its frames one after the other, without a restart, none missing,
+ * doubled or out of its turn. A new sink never holds a false count while no frame that it reads has
+ * more than three wrong control bits with mending off, or more than two with mending on. A sink in
+ * any state holds the source's count after two frames that it reads unharmed, and while frames go
+ * on coming unharmed keeps it, and with the type check off hands out each further load exactly.
+ * With mending on, a sink that holds the source's count and reads frames each with at most one
+ * wrong control bit and its other bytes unharmed keeps the count, and with the type check off hands
+ * out each load exactly; and one in any state holds the count after two such frames.
+ *
+ * With the type check on, where a load is promised here with it off, that load is handed out or
+ * nothing. Where each call is told the multiframe number that the source gave the frame, and all
+ * are told one expected type, which is the source's, a sink in any state hands out each load
+ * exactly after two unharmed frames if that type is already the accepted one, and otherwise at the
+ * latest once three unharmed frames numbered 0 have also come, while frames go on coming unharmed.
+ * Where the source's type is another, it hands out nothing once those three have come.
  */
 typedef struct odu0_settings {
     uint32_t k;
@@ -88,27 +119,29 @@ typedef struct odu0_settings {
     uint32_t plus2;
     uint32_t minus2;
     uint32_t mending;
+    uint32_t type_check;
 } odu0_settings;
 
 /* clang-format off */
 /*
- * Initialises settings with the standard's patterns and mending off:
+ * Initialises settings with the standard's patterns, and with mending and the type check off:
  * const odu0_settings eight = ODU0_SETTINGS(2, 0, 8);
- * Mending is turned on behind it, with settings.mending = 1; mending.c shows a whole job with it.
+ * Mending is turned on behind it, with settings.mending = 1, and the type check with
+ * settings.type_check = 1; mending.c and types.c show a whole job with each.
  */
-#define ODU0_SETTINGS(k, lo, hi) {(k), (lo), (hi), 0, 0, 0, 0, 0, 0}
+#define ODU0_SETTINGS(k, lo, hi) {(k), (lo), (hi), 0, 0, 0, 0, 0, 0, 0}
 
 /*
- * Initialises settings with four other patterns and mending off; patterns.c shows a whole job with
- * such.
+ * Initialises settings with four other patterns, and with mending and the type check off;
+ * patterns.c shows a whole job with such.
  */
 #define ODU0_SETTINGS_WITH_PATTERNS(k, lo, hi, plus1, minus1, plus2, minus2) \
-    {(k), (lo), (hi), 1, (plus1), (minus1), (plus2), (minus2), 0}
+    {(k), (lo), (hi), 1, (plus1), (minus1), (plus2), (minus2), 0, 0}
 /* clang-format on */
 
 /*
- * Initialises the settings of OPU0 with the standard's patterns and mending off:
- * const odu0_settings opu0 = ODU0_OPU0;
+ * Initialises the settings of OPU0 with the standard's patterns, and with mending and the type
+ * check off: const odu0_settings opu0 = ODU0_OPU0;
  */
 #define ODU0_OPU0 ODU0_SETTINGS(3808, 14405, 14410)
 
@@ -123,16 +156,36 @@ typedef struct odu0_source {
 } odu0_source;
 
 /*
- * A sink's state: a known count or none, a remembered word (JC1 * 256 + JC2) or none. A flag of 0
- * says none, whatever stands beside it; any other flag says that what stands beside it counts. Of a
- * word above 65,535 the low 16 bits are used. A refused call returns the very state that it was
- * given.
+ * What a sink's call is told where the type check is on: the frame's multiframe number (0 to 255; a
+ * larger one is taken modulo 256) and the payload type that is expected, any of the 256. The number
+ * is the one that the source gave the frame; the frame's bytes do not have it. With the type check
+ * off neither is looked at.
+ */
+typedef struct odu0_expected {
+    uint32_t multiframe;
+    uint8_t payload_type;
+} odu0_expected;
+
+/*
+ * A sink's state: a known count or none, a remembered word (JC1 * 256 + JC2) or none, the accepted
+ * payload type or none, and the type seen in the last frames numbered 0 that were judged. A flag of
+ * 0, in `known`, `remembered` and `accepted`, says none, whatever stands beside it; any other flag
+ * says that what stands beside it counts. Of a word above 65,535 the low 16 bits are used. A `seen`
+ * of 0 says that no type was seen, whatever `seen_type` is; 1 says that type once, and any other
+ * number twice or more running. Type 0 is a type like any other.
+ *
+ * An accepted call returns flags of 0 or 1, a `seen` of 0, 1 or 2, and 0 beside what is none. A
+ * refused call returns the very state that it was given.
  */
 typedef struct odu0_sink {
     uint32_t known;
     uint32_t count;
     uint32_t remembered;
     uint32_t word;
+    uint32_t accepted;
+    uint32_t seen;
+    uint8_t accepted_type;
+    uint8_t seen_type;
 } odu0_sink;
 
 /* How many ports a card has. They are numbered from 1. */
@@ -187,8 +240,9 @@ typedef struct odu0_keeper_reply {
 
 /*
  * The answer to a sink: the refusal's number, 0 if accepted; the standing, 0 if refused; whether it
- * found a count, 1 or 0, and the count, 0 if none; how many bytes it handed out; whether the
- * frame's control bytes were mended, 1 or 0, and 0 if refused; and the state to go on from.
+ * found a count, 1 or 0, and the count, 0 if none; how many bytes it handed out, 0 where the type
+ * check keeps them back; whether the frame's control bytes were mended, 1 or 0, and 0 if refused;
+ * and the state to go on from.
  *
  * A mended frame has any standing but ODU0_BADCHECK. A wrong bit in JC3 is mended as well: the word
  * is as it came then, and the frame is told as mended. The word that a state remembers is the
@@ -247,12 +301,18 @@ odu0_sink odu0_sink_new(void);
  * port that it names, 1 to 8; the numbers of the other seven ports keep their content. The frame
  * itself is left as it came. Refusals 1, 2, 8, 9, 10, 14.
  *
+ * With the type check on bytes are handed out only where the type accepted before the frame is the
+ * expected one. Otherwise the whole output buffer keeps its content and no byte is tallied; the
+ * standing, the count, the word and the tally's other numbers are as with it off. At last, where
+ * the multiframe number that the call is told is 0, modulo 256, the frame's PSI byte is judged.
+ *
  * Which sink is on which port is the caller's: several sinks may name one port, and a sink may name
  * another port in its next call. But for refusal 10 the port has no part in what is handed out, in
  * the answer or in the state.
  */
 odu0_sink_reply odu0_sink_call(odu0_settings settings,
                                odu0_sink state,
+                               odu0_expected expected,
                                const uint8_t *frame,
                                size_t frame_len,
                                uint8_t *out,

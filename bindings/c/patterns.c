@@ -39,6 +39,8 @@ int main(void)
     const odu0_settings customer = ODU0_SETTINGS_WITH_PATTERNS(3808, 14405, 14410, 0x3C3C, 0x03C3,
                                                                0x1555, 0x2AAA);
     const odu0_settings opu0 = ODU0_OPU0;
+    /* The type check is off: any type may be expected. */
+    const odu0_expected any = {0, 0};
     odu0_settings broken = customer;
     odu0_tallies tallies = {{{0, 0, 0}}};
     odu0_sink sink = odu0_sink_new(), other = odu0_sink_new();
@@ -70,14 +72,14 @@ int main(void)
 
         /* Another sink reads the first two of these frames with the standard's patterns. */
         if (n < FROM + 2) {
-            taken = odu0_sink_call(opu0, other, frame, sizeof frame, out, sizeof out, OTHER,
+            taken = odu0_sink_call(opu0, other, any, frame, sizeof frame, out, sizeof out, OTHER,
                                    &tallies);
             other = taken.state;
             said[n - FROM] = taken.standing;
         }
 
         /* With the customer's patterns the count is there after two frames. */
-        taken = odu0_sink_call(customer, sink, frame, sizeof frame, out, sizeof out, PORT,
+        taken = odu0_sink_call(customer, sink, any, frame, sizeof frame, out, sizeof out, PORT,
                                &tallies);
         sink = taken.state;
         if (taken.refusal != ODU0_ACCEPTED)
@@ -95,11 +97,12 @@ int main(void)
 
     /* With one bit of -2 turned over, the two for minus differ elsewhere than the two for plus. */
     broken.minus2 ^= 1;
-    taken = odu0_sink_call(broken, sink, frame, sizeof frame, out, sizeof out, PORT, &tallies);
+    taken = odu0_sink_call(broken, sink, any, frame, sizeof frame, out, sizeof out, PORT, &tallies);
     printf("one bit of -2 turned over: refusal %lu\n", (unsigned long)taken.refusal);
 
     /* The lowest number that applies is the answer: a short output buffer comes first. */
-    taken = odu0_sink_call(broken, sink, frame, sizeof frame, out, sizeof out - 1, PORT, &tallies);
+    taken = odu0_sink_call(broken, sink, any, frame, sizeof frame, out, sizeof out - 1, PORT,
+                           &tallies);
     printf("and an output buffer of %lu bytes: refusal %lu\n", (unsigned long)(sizeof out - 1),
            (unsigned long)taken.refusal);
     return 0;

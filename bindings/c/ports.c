@@ -16,6 +16,8 @@ static uint8_t client[COUNT], frame[15240], out[14410];
 int main(void)
 {
     const odu0_settings opu0 = ODU0_OPU0;
+    /* The type check is off: any type may be expected. */
+    const odu0_expected any = {0, 0};
     odu0_tallies tallies = {{{0, 0, 0}}};
     odu0_source_reply source[ODU0_PORTS];
     odu0_sink sink[ODU0_PORTS];
@@ -41,8 +43,8 @@ int main(void)
                 frame[1] ^= 0x11;
 
             /* Each call names its port, and is lent the tallies of the whole card. */
-            taken = odu0_sink_call(opu0, sink[port - 1], frame, sizeof frame, out, sizeof out, port,
-                                   &tallies);
+            taken = odu0_sink_call(opu0, sink[port - 1], any, frame, sizeof frame, out, sizeof out,
+                                   port, &tallies);
             sink[port - 1] = taken.state;
             if (taken.refusal != ODU0_ACCEPTED)
                 return 1;
@@ -65,7 +67,7 @@ int main(void)
             printf("the BADCHECK frames are on port %lu\n", (unsigned long)port);
 
     /* There is no port 9: the call is turned back, and changes nothing. */
-    taken = odu0_sink_call(opu0, sink[0], frame, sizeof frame, out, sizeof out, 9, &tallies);
+    taken = odu0_sink_call(opu0, sink[0], any, frame, sizeof frame, out, sizeof out, 9, &tallies);
     printf("port 9: refusal %lu\n", (unsigned long)taken.refusal);
     return 0;
 }

@@ -5,9 +5,10 @@
 
 frame.svg is the frame's layout, even.svg how evenly its client bytes lie, control.svg the bits of
 the control bytes, standings.svg the sink as a state machine, recovery.svg the two-frame recovery as
-tests/span.txt has it, ports.svg the tallies of a card as tests/ports.txt has them, and crates.svg
-the groups of crates as crates.txt lists them. With --check nothing is written; the exit status is 1
-where a stored picture is not the one drawn.
+tests/span.txt has it, ports.svg the tallies of a card as tests/ports.txt has them, types.svg three
+ports that check the payload type as tests/types.txt has them, and crates.svg the groups of crates
+as crates.txt lists them. With --check nothing is written; the exit status is 1 where a stored
+picture is not the one drawn.
 """
 import itertools
 import pathlib
@@ -18,6 +19,7 @@ HERE = pathlib.Path(__file__).resolve().parent
 CRATES = HERE.parents[1] / "crates.txt"
 SPAN = HERE.parents[1] / "tests" / "span.txt"
 PORTS = HERE.parents[1] / "tests" / "ports.txt"
+TYPES = HERE.parents[1] / "tests" / "types.txt"
 WIDTH = 900
 
 INK, DIM, BAND = "#222", "#777", "#f4f4f4"
@@ -229,7 +231,7 @@ def control():
 
 def standings():
     """The sink as a state machine (01, "Sink", rules 1 to 3)."""
-    p = Picture(WIDTH, 580, "The standings")
+    p = Picture(WIDTH, 600, "The standings")
     head = "A sink between frames, and the standings that lead from state to state"
     p.text(20, 28, f"{head} (rules 1 to 3 of 01)", 15)
     wide, high, left, right, upper, lower = 226, 82, 168, 562, 112, 336
@@ -287,6 +289,8 @@ def standings():
         "PAIRED: it does not, but continues a possible count of the word remembered (rule 3).",
         "WAITING: neither (rule 3). OUTSIDE: the count that rule 2 or 3 leads to is outside the"
         " window.",
+        "With the type check on a frame hands out by the count only while the accepted type is the"
+        " expected one.",
     )
     for i, rule in enumerate(rules):
         p.text(20, lower + high + 74 + 19 * i, rule, 13, fill=DIM)
@@ -390,6 +394,76 @@ def ports():
     )
     for i, note in enumerate(notes):
         p.text(20, lower + 130 + 18 * i, note, 13, fill=DIM)
+    return p
+
+
+def type_rows(port, last):
+    """A port's three rows as tests/types.txt has them: what arrives, is accepted and handed out.
+
+    Each is a list of parts: first frame, end, what it says, and its colour.
+    """
+    text = TYPES.read_text(encoding="utf-8")
+    other, right = re.search(r"has type (\d+), and (\d+) is expected", text).groups()
+    arriving = [(1, f"type {right}", CLIENT)]
+    accepted, handed = [(1, "none", STUFF)], [(1, "nothing", STUFF)]
+    for frame, what in re.findall(rf"^ *(\d+) +{port}  (.+)$", text, re.M):
+        frame = int(frame)
+        if what == "gets the other client's frames":
+            arriving = [part for part in arriving if part[0] < frame]
+            arriving.append((frame, f"type {other}, the other client's", HIT))
+            if handed[-1][2] == CLIENT:
+                handed.append((frame, "the other client's bytes", HIT))
+        elif what.startswith("has accepted"):
+            number = what.split()[-1]
+            accepted.append((frame, f"type {number}", CLIENT if number == right else HIT))
+        elif what == "hands out bytes":
+            handed.append((frame, "bytes", arriving[-1][2]))
+        elif what == "hands out nothing more":
+            handed.append((frame, "nothing", STUFF))
+    for parts in (arriving, accepted, handed):
+        ends = [part[0] for part in parts[1:]] + [last + 1]
+        yield [(first, end, says, fill) for (first, says, fill), end in zip(parts, ends)]
+
+
+def types():
+    """Ports with the right cord, with a swapped one, and with one that is swapped in service."""
+    p = Picture(WIDTH, 440, "The payload type must count")
+    p.text(20, 28, "Three ports of a card that expect type 7, over the frames of a run", 15)
+    text = TYPES.read_text(encoding="utf-8")
+    last = int(re.search(r"^ *1 +(\d+) +\d+ +\d+ +\d+$", text, re.M)[1])
+    left, top, high, step = 206, 74, 22, 96
+
+    def at(frame):
+        return round(left + (WIDTH - 20 - left) * (frame - 1) / last, 1)
+
+    p.text(20, top - 20, "frames numbered 0", 13, fill=DIM)
+    for frame in range(1, last + 1, 256):
+        p.text(at(frame), top - 20, frame, 13, "middle")
+        p.line([(at(frame), top - 14), (at(frame), top + 3 * step - 12)], stroke=DIM)
+    titles = "frames that arrive", "accepted type", "handed out"
+    cords = "the right cord", "a swapped cord", "swapped in service"
+    for port, cord in enumerate(cords, 1):
+        y = top + step * (port - 1)
+        p.text(20, y + 10, f"port {port}: {cord}", 13)
+        for i, (title, parts) in enumerate(zip(titles, type_rows(port, last))):
+            upper = y + 16 + high * i
+            p.text(34, upper + 14, title, 12, fill=DIM)
+            for first, end, says, fill in parts:
+                p.box(at(first), upper, round(at(end) - at(first), 1), high - 4, fill)
+                middle = round((at(first) + at(end)) / 2, 1)
+                p.fitting(middle, upper + 13, says, 12, at(end) - at(first) - 4)
+
+    notes = (
+        "All three hold the count after frame 2. A type is accepted in the third frame numbered 0"
+        " running that has it; until then",
+        "the earlier one, or none, stands. A frame is judged after its own bytes, so handing out"
+        " changes with the frame behind it.",
+        "Port 2 hands out not one byte. Port 3 had accepted type 7 when its cord was swapped: until"
+        " three frames numbered 0",
+        "have come with type 5, the other client's bytes are handed out.",
+    )
+    for i, note in enumerate(notes):
+        p.text(20, top + 3 * step + 12 + 18 * i, note, 13, fill=DIM)
     return p
 
 
@@ -566,6 +640,7 @@ PICTURES = {
     "standings.svg": standings,
     "recovery.svg": recovery,
     "ports.svg": ports,
+    "types.svg": types,
     "crates.svg": crates,
 }
 

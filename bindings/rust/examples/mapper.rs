@@ -2,7 +2,7 @@
 //! of the source's run, at a frame whose word says only "one more than before"; and one frame is
 //! harmed on its way. bindings/c/example.c does the same and prints the same lines.
 
-use odu0::{Keeper, Refusal, Settings, Sink, Source, Tallies};
+use odu0::{Expected, Keeper, Refusal, Settings, Sink, Source, Tallies};
 
 /// The rate of 1000BASE-X is P / Q client bytes a frame.
 const P: u32 = 18671875;
@@ -18,6 +18,8 @@ const PORT: u32 = 1;
 
 fn main() -> Result<(), Refusal> {
     let opu0 = Settings::OPU0;
+    // The type check is off: any type may be expected.
+    let any = Expected { multiframe: 0, payload_type: 0 };
     let mut tallies = Tallies::new();
     let mut sink = Sink::new();
     let mut frame = vec![0; 15240];
@@ -44,7 +46,7 @@ fn main() -> Result<(), Refusal> {
         if n < FROM {
             continue;
         }
-        let taken = sink.call(opu0, &frame, &mut out, PORT, &mut tallies)?;
+        let taken = sink.call(opu0, any, &frame, &mut out, PORT, &mut tallies)?;
         let count = taken.standing.count().map_or("-".to_string(), |count| count.to_string());
         let equal = out[..taken.handed as usize] == client[..];
         println!(
@@ -59,7 +61,7 @@ fn main() -> Result<(), Refusal> {
 
     // A frame that is one byte short is turned back, and changes nothing.
     frame.pop();
-    let refusal = sink.call(opu0, &frame, &mut out, PORT, &mut tallies).unwrap_err();
+    let refusal = sink.call(opu0, any, &frame, &mut out, PORT, &mut tallies).unwrap_err();
     println!("a frame of {} bytes: refusal {}", frame.len(), refusal.number());
     Ok(())
 }

@@ -2,7 +2,7 @@
 //! wrong, once in JC3, and in one frame two are. The sink reads the frames once with mending off
 //! and once with mending on. bindings/c/mending.c does the same and prints the same lines.
 
-use odu0::{Refusal, Settings, Sink, Source, Tallies};
+use odu0::{Expected, Refusal, Settings, Sink, Source, Tallies};
 
 /// The count of each frame, and at last the one that the last frame announces.
 const COUNTS: [u32; 13] =
@@ -37,6 +37,8 @@ fn yes(it_is: bool) -> &'static str {
 
 /// The whole job with these settings of the sink.
 fn job(settings: Settings) -> Result<(), Refusal> {
+    // The type check is off: any type may be expected.
+    let any = Expected { multiframe: 0, payload_type: 0 };
     let mut tallies = Tallies::new();
     let mut sink = Sink::new();
     let mut frame = vec![0; 15240];
@@ -58,7 +60,7 @@ fn job(settings: Settings) -> Result<(), Refusal> {
             frame[row * 3810 + 1] ^= bits;
         }
 
-        let taken = sink.call(settings, &frame, &mut out, PORT, &mut tallies)?;
+        let taken = sink.call(settings, any, &frame, &mut out, PORT, &mut tallies)?;
         let count = taken.standing.count().map_or("-".to_string(), |count| count.to_string());
         let equal = out[..taken.handed as usize] == client[..];
         whole += u32::from(equal);

@@ -3,7 +3,7 @@
 //! with the standard's patterns does not follow this source, and that patterns which break the rule
 //! are turned back. bindings/c/patterns.c does the same and prints the same lines.
 
-use odu0::{Patterns, Refusal, Settings, Sink, Source, Tallies};
+use odu0::{Expected, Patterns, Refusal, Settings, Sink, Source, Tallies};
 
 /// The customer's table, from C1 to C14. The two for plus differ in 10100101101001, and so do the
 /// two for minus.
@@ -27,6 +27,8 @@ const OTHER: u32 = 2;
 
 fn main() -> Result<(), Refusal> {
     let customer = Settings::OPU0.with_patterns(TABLE);
+    // The type check is off: any type may be expected.
+    let any = Expected { multiframe: 0, payload_type: 0 };
     let mut tallies = Tallies::new();
     let (mut sink, mut other) = (Sink::new(), Sink::new());
     let mut said = Vec::new();
@@ -48,12 +50,12 @@ fn main() -> Result<(), Refusal> {
 
         // Another sink reads the first two of these frames with the standard's patterns.
         if n < FROM + 2 {
-            let taken = other.call(Settings::OPU0, &frame, &mut out, OTHER, &mut tallies)?;
+            let taken = other.call(Settings::OPU0, any, &frame, &mut out, OTHER, &mut tallies)?;
             said.push(taken.standing.name());
         }
 
         // With the customer's patterns the count is there after two frames.
-        let taken = sink.call(customer, &frame, &mut out, PORT, &mut tallies)?;
+        let taken = sink.call(customer, any, &frame, &mut out, PORT, &mut tallies)?;
         let count = taken.standing.count().map_or("-".to_string(), |count| count.to_string());
         let equal = out[..taken.handed as usize] == client[..];
         println!(
@@ -74,12 +76,12 @@ fn main() -> Result<(), Refusal> {
 
     // With one bit of −2 turned over, the two for minus differ elsewhere than the two for plus.
     let broken = Settings::OPU0.with_patterns(Patterns { minus2: TABLE.minus2 ^ 1, ..TABLE });
-    let refusal = sink.call(broken, &frame, &mut out, PORT, &mut tallies).unwrap_err();
+    let refusal = sink.call(broken, any, &frame, &mut out, PORT, &mut tallies).unwrap_err();
     println!("one bit of -2 turned over: refusal {}", refusal.number());
 
     // The lowest number that applies is the answer: a short output buffer comes first.
     out.pop();
-    let refusal = sink.call(broken, &frame, &mut out, PORT, &mut tallies).unwrap_err();
+    let refusal = sink.call(broken, any, &frame, &mut out, PORT, &mut tallies).unwrap_err();
     println!("and an output buffer of {} bytes: refusal {}", out.len(), refusal.number());
     Ok(())
 }

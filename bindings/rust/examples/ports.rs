@@ -2,7 +2,7 @@
 //! card. The span of one port turns control bits over in some frames, and the tallies tell which
 //! port it is. bindings/c/ports.c does the same and prints the same lines.
 
-use odu0::{Refusal, Settings, Sink, Source, Tallies, PORTS};
+use odu0::{Expected, Refusal, Settings, Sink, Source, Tallies, PORTS};
 
 /// Each frame carries COUNT client bytes.
 const COUNT: u32 = 14407;
@@ -15,6 +15,8 @@ const TO: u32 = 1005;
 
 fn main() -> Result<(), Refusal> {
     let opu0 = Settings::OPU0;
+    // The type check is off: any type may be expected.
+    let any = Expected { multiframe: 0, payload_type: 0 };
     let mut tallies = Tallies::new();
     // The client's bytes do not matter here: they stay zero.
     let client = [0; COUNT as usize];
@@ -37,7 +39,7 @@ fn main() -> Result<(), Refusal> {
             }
 
             // Each call names its port, and is lent the tallies of the whole card.
-            sink.call(opu0, &frame, &mut out, *port, &mut tallies)?;
+            sink.call(opu0, any, &frame, &mut out, *port, &mut tallies)?;
         }
     }
 
@@ -56,7 +58,7 @@ fn main() -> Result<(), Refusal> {
     }
 
     // There is no port 9: the call is turned back, and changes nothing.
-    let refusal = Sink::new().call(opu0, &frame, &mut out, 9, &mut tallies).unwrap_err();
+    let refusal = Sink::new().call(opu0, any, &frame, &mut out, 9, &mut tallies).unwrap_err();
     println!("port 9: refusal {}", refusal.number());
     Ok(())
 }

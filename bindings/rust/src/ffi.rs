@@ -3,11 +3,11 @@
 
 #![allow(missing_docs)]
 
-use crate::{Source, Tallies, Total};
+use crate::{Expected, Source, Tallies, Total};
 
 /// odu0_settings: a `given` of 0 says the standard's patterns, whatever the four numbers after it
 /// are; any other value says that they are the patterns. A `mending` of 0 says off, any other value
-/// on.
+/// on, and so does a `type_check`.
 #[repr(C)]
 #[derive(Clone, Copy, Debug, PartialEq, Eq)]
 pub struct Settings {
@@ -20,9 +20,12 @@ pub struct Settings {
     pub plus2: u32,
     pub minus2: u32,
     pub mending: u32,
+    pub type_check: u32,
 }
 
-/// odu0_sink: a flag of 0 says none, whatever stands beside it.
+/// odu0_sink: a flag of 0, in `known`, `remembered` and `accepted`, says none, whatever stands
+/// beside it. A `seen` of 0 says that no type was seen, whatever `seen_type` is, 1 says that type
+/// once, and any other number twice or more running.
 #[repr(C)]
 #[derive(Clone, Copy, Debug, PartialEq, Eq)]
 pub struct Sink {
@@ -30,6 +33,10 @@ pub struct Sink {
     pub count: u32,
     pub remembered: u32,
     pub word: u32,
+    pub accepted: u32,
+    pub seen: u32,
+    pub accepted_type: u8,
+    pub seen_type: u8,
 }
 
 /// odu0_source_reply
@@ -79,6 +86,7 @@ extern "C" {
     pub fn odu0_sink_call(
         settings: Settings,
         state: Sink,
+        expected: Expected,
         frame: *const u8,
         frame_len: usize,
         out: *mut u8,

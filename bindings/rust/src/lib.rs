@@ -5,7 +5,8 @@
 //! keeps no state of its own; a state is plain data in the caller's hands, and nothing here
 //! allocates. `examples/mapper.rs` shows a whole job, `examples/patterns.rs` one with inversion
 //! patterns other than the standard's, `examples/mending.rs` one over a span that turns single bits
-//! over, and `examples/ports.rs` a card with eight ports, of which one has a bad span.
+//! over, `examples/ports.rs` a card with eight ports, of which one has a bad span, and
+//! `examples/types.rs` one whose sinks check the payload type, with swapped cords.
 
 #![no_std]
 #![warn(missing_docs)]
@@ -14,8 +15,26 @@ pub mod ffi;
 
 use core::fmt;
 
-/// The settings: the grid, the window, the inversion patterns, and whether a sink mends one wrong
-/// control bit.
+/// The settings: the grid, the window, the inversion patterns, whether a sink mends one wrong
+/// control bit, and whether it checks the payload type.
+///
+/// What follows holds where nothing else writes the sink's state, and where the accepted calls have
+/// the settings of one source, `mending` and `type_check` apart, which are the same in all of them,
+/// and take its frames one after the other, without a restart, none missing, doubled or out of its
+/// turn. A new sink never holds a false count while no frame that it reads has more than three
+/// wrong control bits with mending off, or more than two with mending on. A sink in any state holds
+/// the source's count after two frames that it reads unharmed, and while frames go on coming
+/// unharmed keeps it, and with the type check off hands out each further load exactly. With mending
+/// on, a sink that holds the source's count and reads frames each with at most one wrong control
+/// bit and its other bytes unharmed keeps the count, and with the type check off hands out each
+/// load exactly; and one in any state holds the count after two such frames.
+///
+/// With the type check on, where a load is promised here with it off, that load is handed out or
+/// nothing. Where each call is told the multiframe number that the source gave the frame, and all
+/// are told one expected type, which is the source's, a sink in any state hands out each load
+/// exactly after two unharmed frames if that type is already the accepted one, and otherwise at the
+/// latest once three unharmed frames numbered 0 have also come, while frames go on coming unharmed.
+/// Where the source's type is another, it hands out nothing once those three have come.
 #[derive(Clone, Copy, Debug, PartialEq, Eq)]
 pub struct Settings {
     /// Payload columns in a row, 1 to 3,808.
@@ -37,15 +56,33 @@ pub struct Settings {
     /// but 0 is: one wrong control bit then costs the count and the remembered word, and two clean
     /// frames are needed to be sure of a count again.
     ///
-    /// What follows holds where nothing else writes the sink's state, and where the accepted calls
-    /// have the settings of one source, `mending` apart, which is the same in all of them, and take
-    /// its frames one after the other, without a restart, none missing, doubled or out of its turn.
-    /// A new sink never holds a false count while no frame that it reads has more than three wrong
-    /// control bits with mending off, or more than two with mending on. With mending on, a sink
-    /// that holds the source's count and reads frames each with at most one wrong control bit and
-    /// its other bytes unharmed keeps the count and hands out each load exactly; and one in any
-    /// state holds the count after two such frames.
+    /// What is promised of it stands at [`Settings`].
     pub mending: bool,
+    /// Whether a sink checks the payload type. Only the sink's call looks at it, and neither value
+    /// is refused.
+    ///
+    /// With it off the type does not matter, and what a sink remembers of types stays as it is.
+    /// With it on a call is told the frame's multiframe number and the type that is expected. In
+    /// frames numbered 0 the PSI byte is read, the first byte of row 4. The same type in three such
+    /// frames running, as the sink takes them, becomes the accepted type; until then the earlier
+    /// one, or none, stands. While the accepted type is none or not the expected one, no bytes are
+    /// handed out, but counts are followed and frames are tallied as ever. A frame's PSI byte is
+    /// judged after its own bytes have or have not been handed out, that of a BADCHECK frame too.
+    /// Refused calls, and calls with the type check off, are none of the three and do not end a run
+    /// of them.
+    ///
+    /// What is accepted does not age: a type that was accepted before the type check was turned off
+    /// counts as soon as it is on again. So where the first call gets the state of a new sink, and
+    /// each other the state that the call before it returned, a call with the type check on hands
+    /// out nothing, unless the last type that three frames numbered 0 running had, of those that
+    /// the sink took with the type check on before this frame, is the one that the call expects: of
+    /// a client of another type nothing, as long as no three such PSI bytes running say the
+    /// expected type. A sink that has accepted the expected type, and whose cord is then swapped,
+    /// may hand out the other client's bytes until three frames numbered 0 with the other type have
+    /// come. Those are 768 frames at most where they come unharmed and in succession and are told
+    /// with their own numbers, since any 768 such hold three numbered 0. Two clients of one type
+    /// are not told apart.
+    pub type_check: bool,
 }
 
 /// Four inversion patterns, with which a control word says that the count changes by +1, −1, +2 or
@@ -65,13 +102,14 @@ pub struct Patterns {
 }
 
 impl Settings {
-    /// OPU0: 3,808 columns, counts 14,405 to 14,410, the standard's patterns, mending off.
+    /// OPU0: 3,808 columns, counts 14,405 to 14,410, the standard's patterns, mending and the type
+    /// check off.
     pub const OPU0: Settings = Settings::new(3808, 14405, 14410);
 
     /// Settings with k payload columns in a row, the window of counts lo to hi, the standard's
-    /// patterns, and mending off.
+    /// patterns, and mending and the type check off.
     pub const fn new(k: u32, lo: u32, hi: u32) -> Settings {
-        Settings { k, lo, hi, patterns: None, mending: false }
+        Settings { k, lo, hi, patterns: None, mending: false, type_check: false }
     }
 
     /// The same with these patterns in the place of the standard's.
@@ -82,6 +120,11 @@ impl Settings {
     /// The same with mending on.
     pub const fn with_mending(self) -> Settings {
         Settings { mending: true, ..self }
+    }
+
+    /// The same with the type check on.
+    pub const fn with_type_check(self) -> Settings {
+        Settings { type_check: true, ..self }
     }
 }
 
@@ -357,11 +400,35 @@ impl Tallies {
 pub struct Taken {
     /// What the sink says of the frame.
     pub standing: Standing,
-    /// How many bytes it handed out, at the start of the output buffer.
+    /// How many bytes it handed out, at the start of the output buffer; 0 where the type check
+    /// keeps them back.
     pub handed: u32,
     /// Whether the frame's control bytes were mended. Such a frame has any standing but BADCHECK. A
     /// wrong bit in JC3 is mended as well, and then the word is as it came.
     pub mended: bool,
+}
+
+/// What a sink's call is told where the type check is on; with it off neither is looked at.
+#[repr(C)]
+#[derive(Clone, Copy, Debug, PartialEq, Eq)]
+pub struct Expected {
+    /// The frame's multiframe number, 0 to 255; a larger one is taken modulo 256. It is the one
+    /// that the source gave the frame; the frame's bytes do not have it.
+    pub multiframe: u32,
+    /// The payload type that is expected, any of the 256.
+    pub payload_type: u8,
+}
+
+/// How often a type was seen in the last frames numbered 0 that were judged. Type 0 is one like any
+/// other.
+#[derive(Clone, Copy, Debug, PartialEq, Eq)]
+pub enum Seen {
+    /// No frame numbered 0 was judged yet.
+    Never,
+    /// This type once.
+    Once(u8),
+    /// This type twice or more running.
+    Twice(u8),
 }
 
 /// A sink's state.
@@ -372,6 +439,10 @@ pub struct Sink {
     /// The remembered word (JC1 × 256 + JC2), if there is one; of a mended frame it is the mended
     /// one. One with II = DI counts as none.
     pub word: Option<u32>,
+    /// The accepted payload type, if there is one.
+    pub accepted: Option<u8>,
+    /// The type seen in the last frames numbered 0 that were judged.
+    pub seen: Seen,
 }
 
 impl Sink {
@@ -387,12 +458,19 @@ impl Sink {
     /// port that it names, 1 to 8; the numbers of the other seven ports keep their content.
     /// Refusals: grid, window, frame, space, port, patterns.
     ///
+    /// With the type check on bytes are handed out only where the type accepted before the frame is
+    /// the expected one. Otherwise all of `out` keeps its content and no byte is tallied; the
+    /// standing, the count, the word and the tally's other numbers are as with it off. At last,
+    /// where the multiframe number that the call is told is 0, modulo 256, the frame's PSI byte is
+    /// judged.
+    ///
     /// Which sink is on which port is the caller's: several sinks may name one port, and a sink may
     /// name another port in its next call. But for refusal 10 the port has no part in what is
     /// handed out, in the answer or in the state.
     pub fn call(
         &mut self,
         settings: Settings,
+        expected: Expected,
         frame: &[u8],
         out: &mut [u8],
         port: u32,
@@ -405,6 +483,7 @@ impl Sink {
             ffi::odu0_sink_call(
                 settings.into(),
                 ffi::Sink::from(&*self),
+                expected,
                 frame.as_ptr(),
                 frame.len(),
                 out.as_mut_ptr(),
@@ -436,11 +515,12 @@ impl Default for Sink {
 
 impl From<Settings> for ffi::Settings {
     fn from(settings: Settings) -> ffi::Settings {
-        let Settings { k, lo, hi, patterns, mending } = settings;
+        let Settings { k, lo, hi, patterns, mending, type_check } = settings;
         let given = patterns.is_some().into();
         let Patterns { plus1, minus1, plus2, minus2 } =
             patterns.unwrap_or(Patterns { plus1: 0, minus1: 0, plus2: 0, minus2: 0 });
-        ffi::Settings { k, lo, hi, given, plus1, minus1, plus2, minus2, mending: mending.into() }
+        let (mending, type_check) = (mending.into(), type_check.into());
+        ffi::Settings { k, lo, hi, given, plus1, minus1, plus2, minus2, mending, type_check }
     }
 }
 
@@ -449,17 +529,32 @@ impl From<ffi::Sink> for Sink {
         Sink {
             count: (state.known != 0).then_some(state.count),
             word: (state.remembered != 0).then_some(state.word),
+            accepted: (state.accepted != 0).then_some(state.accepted_type),
+            seen: match state.seen {
+                0 => Seen::Never,
+                1 => Seen::Once(state.seen_type),
+                _ => Seen::Twice(state.seen_type),
+            },
         }
     }
 }
 
 impl From<&Sink> for ffi::Sink {
     fn from(sink: &Sink) -> ffi::Sink {
+        let (seen, seen_type) = match sink.seen {
+            Seen::Never => (0, 0),
+            Seen::Once(seen) => (1, seen),
+            Seen::Twice(seen) => (2, seen),
+        };
         ffi::Sink {
             known: sink.count.is_some().into(),
             count: sink.count.unwrap_or(0),
             remembered: sink.word.is_some().into(),
             word: sink.word.unwrap_or(0),
+            accepted: sink.accepted.is_some().into(),
+            seen,
+            accepted_type: sink.accepted.unwrap_or(0),
+            seen_type,
         }
     }
 }

@@ -1,10 +1,11 @@
 -- The settings as the plain numbers that C and Rust give. What may be missing is a flag, 0 for the
--- standard's patterns, beside four numbers; mending is a flag, 0 for off. Assumes nothing.
+-- standard's patterns, beside four numbers; mending and the type check are flags, 0 for off.
+-- Assumes nothing.
 use mathlib.Core.Bool.{not, cond}
 use lib.Dec.{eqb}
 use Rattle.gmp_settings.specs.declared.Settings.{Settings}
 use Rattle.gmp_settings.specs.declared.FourPatterns.{FourPatterns}
-use Rattle.gmp_settings.specs.Settings.{newSettings, withPatterns, withMending}
+use Rattle.gmp_settings.specs.Settings.{newSettings, withPatterns, withMending, withTypeCheck}
 use Rattle.c_settings.specs.declared.SettingsNumbers.{SettingsNumbers}
 
 -- the four patterns, as they stand
@@ -17,6 +18,6 @@ patternsFrom x =
     let s : Settings = newSettings (x .k) (x .lo) (x .hi) in
     cond (eqb (x .given) 0) s (withPatterns s (fourFrom x))
 
--- the settings that any nine numbers stand for
+-- the settings that any ten numbers stand for
 unfoldable pub settingsFrom : SettingsNumbers → Settings
-settingsFrom x = withMending (patternsFrom x) (not (eqb (x .mending) 0))
+settingsFrom x = withTypeCheck (withMending (patternsFrom x) (not (eqb (x .mending) 0))) (not (eqb (x .«type_check») 0))

@@ -7,7 +7,7 @@ ghost use Rattle.c_settings.specs.Numbers.{patternsFrom, settingsFrom};
 ghost use Rattle.c_settings.specs.Lossless.{Lossless};
 
 // The grid and the window; a flag, 0 for the standard's patterns, beside four patterns for the
-// changes +1, -1, +2, -2; and a flag, 0 for no mending.
+// changes +1, -1, +2, -2; a flag, 0 for no mending; and one, 0 for no type check.
 #[repr(C)]
 pub struct SettingsNumbers {
     pub k: u32,
@@ -19,13 +19,15 @@ pub struct SettingsNumbers {
     pub plus2: u32,
     pub minus2: u32,
     pub mending: u32,
+    pub type_check: u32,
 }
 
-// The settings that nine numbers stand for. Any flag but 0 says mending.
+// The settings that ten numbers stand for. Any flag but 0 says that it is on.
 pub fn settings_from(numbers: SettingsNumbers) -> Settings
     ensures { λ r. ⌜ r ≡ settingsFrom numbers ⌝ }
 {
-    gmp_settings::with_mending(patterns_from(numbers), numbers.mending != 0)
+    let mending = gmp_settings::with_mending(patterns_from(numbers), numbers.mending != 0);
+    gmp_settings::with_type_check(mending, numbers.type_check != 0)
 }
 
 // All settings can be said in numbers, and a flag of 0 says the standard's patterns, whatever the

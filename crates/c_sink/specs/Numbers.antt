@@ -14,6 +14,11 @@ use Rattle.gmp_standing.specs.Standing.{Finding, standingNumber}
 use Rattle.gmp_control.specs.declared.Remembered.{Remembered}
 use Rattle.gmp_control.specs.declared.Remembered.the-variants.{Word, Nothing}
 use Rattle.gmp_port.specs.Port.{ports}
+use Rattle.gmp_payload_type.specs.declared.AcceptedType.{AcceptedType}
+use Rattle.gmp_payload_type.specs.declared.AcceptedType.the-variants.{PayloadType, NoType}
+use Rattle.gmp_payload_type.specs.declared.Seen.{Seen}
+use Rattle.gmp_payload_type.specs.declared.Seen.the-variants.{Never, Once, Twice}
+use Rattle.gmp_payload_type.specs.declared.Expected.{Expected}
 use Rattle.card_tally.specs.declared.Tally.{Tally}
 use Rattle.card_tally.specs.declared.Tallies.{Tallies}
 use Rattle.card_tally.specs.Ports.{tallyOf}
@@ -47,13 +52,53 @@ abbrev pub wordValue : Remembered → ℕ
 wordValue (Word n) = n
 wordValue Nothing = 0
 
--- the sink's state that any four numbers stand for, and the four numbers of a state
+-- an accepted payload type or none
+abbrev pub acceptedFrom : ℕ → ℕ → AcceptedType
+acceptedFrom flag k = cond (eqb flag 0) NoType (PayloadType k)
+
+abbrev pub acceptedFlag : AcceptedType → ℕ
+acceptedFlag (PayloadType k) = 1
+acceptedFlag NoType = 0
+
+abbrev pub acceptedType : AcceptedType → ℕ
+acceptedType (PayloadType k) = k
+acceptedType NoType = 0
+
+-- the type that was seen last, and how often: never, once, or, for any other number, twice or more
+abbrev pub seenFrom : ℕ → ℕ → Seen
+seenFrom times k = cond (eqb times 0) Never (cond (eqb times 1) (Once k) (Twice k))
+
+abbrev pub seenTimes : Seen → ℕ
+seenTimes Never = 0
+seenTimes (Once k) = 1
+seenTimes (Twice k) = 2
+
+abbrev pub seenType : Seen → ℕ
+seenType Never = 0
+seenType (Once k) = k
+seenType (Twice k) = k
+
+-- the sink's state that any eight numbers stand for, and the eight numbers of a state
 abbrev pub stateFrom : SinkNumbers → SinkState
-stateFrom x = record { count = countFrom (x .known) (x .count); word = wordFrom (x .remembered) (x .word) }
+stateFrom x =
+    record {
+      count = countFrom (x .known) (x .count);
+      word = wordFrom (x .remembered) (x .word);
+      types = record { accepted = acceptedFrom (x .accepted) (x .«accepted_type»); seen = seenFrom (x .seen) (x .«seen_type») };
+    }
 
 abbrev pub stateNumbers : SinkState → SinkNumbers
 stateNumbers z =
-    record { known = countFlag (z .count); count = countValue (z .count); remembered = wordFlag (z .word); word = wordValue (z .word) }
+    record {
+      known = countFlag (z .count);
+      count = countValue (z .count);
+      remembered = wordFlag (z .word);
+      word = wordValue (z .word);
+      accepted = acceptedFlag (z .types .accepted);
+      seen = seenTimes (z .types .seen);
+      «accepted_type» = acceptedType (z .types .accepted);
+      «seen_type» = seenType (z .types .seen);
+    }
 
 -- a flag, 0 for no
 abbrev pub flagOf : Bool → ℕ
@@ -76,9 +121,9 @@ sinkReplyBy x (refused n) handed mended z =
     record { refusal = n; standing = 0; found = 0; count = 0; handed = handed; mended = flagOf mended; state = x }
 
 -- a sink call from the numbers x, over the lists of its buffers
-abbrev pub sinkReply : Settings → SinkNumbers → SinkState → List ℕ → List ℕ → ℕ → SinkReply
-sinkReply s x z frame out port =
-    sinkReplyBy x (sinkAnswer s z frame out port) (length (sinkHanded s z frame out port)) (sinkMended s frame out port) (sinkState s z frame out port)
+abbrev pub sinkReply : Settings → SinkNumbers → SinkState → Expected → List ℕ → List ℕ → ℕ → SinkReply
+sinkReply s x z e frame out port =
+    sinkReplyBy x (sinkAnswer s z frame out port) (length (sinkHanded s z e frame out port)) (sinkMended s frame out port) (sinkState s z e frame out port)
 
 -- a tally as three numbers in a row, from this place on
 abbrev pub tallyAt : List ℕ → ℕ → Tally
@@ -105,7 +150,7 @@ talliesNumbers y = numbersOf ports y
 
 -- What the sink call promises: its reply, every byte of the output buffer, and the 24 numbers of
 -- the tallies.
-pub record SinkCallPromise (s : Settings) (x : SinkNumbers) (frame out : List ℕ) (port : ℕ) (tallies : List ℕ) (r : SinkReply) (out-after tallies-after : List ℕ) : Type 0 where
-  pub reply : r ≡ sinkReply s x (stateFrom x) frame out port
-  pub out-buffer : out-after ≡ sinkOut s (stateFrom x) frame out port
-  pub tallies-numbers : tallies-after ≡ talliesNumbers (talliesAfter s (stateFrom x) frame out port (talliesFrom tallies))
+pub record SinkCallPromise (s : Settings) (x : SinkNumbers) (e : Expected) (frame out : List ℕ) (port : ℕ) (tallies : List ℕ) (r : SinkReply) (out-after tallies-after : List ℕ) : Type 0 where
+  pub reply : r ≡ sinkReply s x (stateFrom x) e frame out port
+  pub out-buffer : out-after ≡ sinkOut s (stateFrom x) e frame out port
+  pub tallies-numbers : tallies-after ≡ talliesNumbers (talliesAfter s (stateFrom x) e frame out port (talliesFrom tallies))

@@ -5,6 +5,10 @@ use card_tally::Tallies;
 use card_tally::Tally;
 use card_tally::Total;
 use gmp_control::Remembered;
+use gmp_payload_type::AcceptedType;
+use gmp_payload_type::Expected;
+use gmp_payload_type::Seen;
+use gmp_payload_type::Types;
 use gmp_refusal::Verdict;
 use gmp_sink::SinkAnswer;
 use gmp_sink::SinkResult;
@@ -15,16 +19,22 @@ ghost use Prim.Native.Nat.{_<_};
 ghost use Rattle.gmp_sink.specs.Sink.{newSink, answerMeaning};
 ghost use Rattle.card_tally.specs.Ports.{totalOf};
 ghost use Rattle.c_settings.specs.Numbers.{settingsFrom};
-ghost use Rattle.c_sink.specs.Numbers.{countFrom, countFlag, countValue, wordFrom, wordFlag, wordValue, stateFrom, stateNumbers, flagOf, sinkReplyBy, tallyAt, talliesFrom, talliesNumbers, SinkCallPromise};
+ghost use Rattle.c_sink.specs.Numbers.{countFrom, countFlag, countValue, wordFrom, wordFlag, wordValue, acceptedFrom, acceptedFlag, acceptedType, seenFrom, seenTimes, seenType, stateFrom, stateNumbers, flagOf, sinkReplyBy, tallyAt, talliesFrom, talliesNumbers, SinkCallPromise};
 ghost use Rattle.c_sink.specs.Lossless.{Lossless};
 
-// A sink's state: a flag, 0 for none, beside the count and beside the remembered word.
+// A sink's state: a flag, 0 for none, beside the count, beside the remembered word and beside the
+// accepted payload type; and how often the type that was seen last was seen: 0, 1, or any other
+// number for twice or more.
 #[repr(C)]
 pub struct SinkNumbers {
     pub known: u32,
     pub count: u32,
     pub remembered: u32,
     pub word: u32,
+    pub accepted: u32,
+    pub seen: u32,
+    pub accepted_type: u8,
+    pub seen_type: u8,
 }
 
 // The refusal's number or 0, the standing's number or 0, what it found, the bytes handed out, a
@@ -46,6 +56,12 @@ struct Flagged {
     value: u32,
 }
 
+// How often, 0 for never, beside the payload type.
+struct Timed {
+    times: u32,
+    payload_type: u8,
+}
+
 #[no_mangle]
 pub extern "C" fn odu0_sink_new() -> SinkNumbers
     ensures { λ r. ⌜ r ≡ stateNumbers newSink ⌝ }
@@ -57,16 +73,17 @@ pub extern "C" fn odu0_sink_new() -> SinkNumbers
 pub extern "C" fn odu0_sink_call(
     settings: SettingsNumbers,
     state: SinkNumbers,
+    expected: Expected,
     frame: &[u8],
     out: &mut [u8],
     port: u32,
     tallies: &mut [u32; 24],
 ) -> SinkReply
-    ensures { λ r. ⌜ SinkCallPromise (settingsFrom settings) state (now (frame .entry)) (now (out .entry)) port (now (tallies .entry)) r (now (out .exit)) (now (tallies .exit)) ⌝ }
+    ensures { λ r. ⌜ SinkCallPromise (settingsFrom settings) state expected (now (frame .entry)) (now (out .entry)) port (now (tallies .entry)) r (now (out .exit)) (now (tallies .exit)) ⌝ }
 {
     let before = tallies_from(*tallies);
     let card = c_settings::settings_from(settings);
-    let called = card_sink::lend_call(card, state_from(state), frame, out, port, before);
+    let called = card_sink::lend_call(card, state_from(state), expected, frame, out, port, before);
     *tallies = tallies_numbers(called.tallies);
     let result = called.result;
     sink_reply(state, result)
@@ -195,13 +212,18 @@ fn tally_at(numbers: [u32; 24], place: usize) -> Tally
     }
 }
 
-// The sink's state that four numbers stand for, and the four numbers of a state.
+// The sink's state that eight numbers stand for, and the eight numbers of a state.
 fn state_from(numbers: SinkNumbers) -> SinkState
     ensures { λ r. ⌜ r ≡ stateFrom numbers ⌝ }
 {
+    let types = Types {
+        accepted: accepted_from(numbers.accepted, numbers.accepted_type),
+        seen: seen_from(numbers.seen, numbers.seen_type),
+    };
     SinkState {
         count: count_from(numbers.known, numbers.count),
         word: word_from(numbers.remembered, numbers.word),
+        types: types,
     }
 }
 
@@ -212,11 +234,20 @@ fn state_numbers(state: SinkState) -> SinkNumbers
     let word = state.word;
     let known = count_numbers(count);
     let remembered = word_numbers(word);
+    let types = state.types;
+    let accepted = types.accepted;
+    let seen = types.seen;
+    let kept = accepted_numbers(accepted);
+    let last = seen_numbers(seen);
     SinkNumbers {
         known: known.flag,
         count: known.value,
         remembered: remembered.flag,
         word: remembered.value,
+        accepted: kept.times,
+        seen: last.times,
+        accepted_type: kept.payload_type,
+        seen_type: last.payload_type,
     }
 }
 
@@ -255,5 +286,62 @@ fn word_numbers(word: Remembered) -> Flagged
     match word {
         Remembered::Word(n) => Flagged { flag: 1, value: n },
         Remembered::Nothing => Flagged { flag: 0, value: 0 },
+    }
+}
+
+// An accepted payload type or none.
+fn accepted_from(flag: u32, payload_type: u8) -> AcceptedType
+    ensures { λ r. ⌜ r ≡ acceptedFrom flag «payload_type» ⌝ }
+{
+    if flag == 0 {
+        return AcceptedType::NoType;
+    }
+    AcceptedType::PayloadType(payload_type)
+}
+
+fn accepted_numbers(accepted: AcceptedType) -> Timed
+    ensures { λ r. ⌜ (r .times ≡ acceptedFlag accepted) × (r .«payload_type» ≡ acceptedType accepted) ⌝ }
+{
+    match accepted {
+        AcceptedType::PayloadType(kept) => Timed {
+            times: 1,
+            payload_type: kept,
+        },
+        AcceptedType::NoType => Timed {
+            times: 0,
+            payload_type: 0,
+        },
+    }
+}
+
+// The type that was seen last, and how often.
+fn seen_from(times: u32, payload_type: u8) -> Seen
+    ensures { λ r. ⌜ r ≡ seenFrom times «payload_type» ⌝ }
+{
+    if times == 0 {
+        return Seen::Never;
+    }
+    if times == 1 {
+        return Seen::Once(payload_type);
+    }
+    Seen::Twice(payload_type)
+}
+
+fn seen_numbers(seen: Seen) -> Timed
+    ensures { λ r. ⌜ (r .times ≡ seenTimes seen) × (r .«payload_type» ≡ seenType seen) ⌝ }
+{
+    match seen {
+        Seen::Never => Timed {
+            times: 0,
+            payload_type: 0,
+        },
+        Seen::Once(last) => Timed {
+            times: 1,
+            payload_type: last,
+        },
+        Seen::Twice(last) => Timed {
+            times: 2,
+            payload_type: last,
+        },
     }
 }

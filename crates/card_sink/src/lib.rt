@@ -1,5 +1,6 @@
 // The sink's call with the card's tallies.
 use card_tally::Tallies;
+use gmp_payload_type::Expected;
 use gmp_settings::Settings;
 use gmp_sink::SinkAnswer;
 use gmp_sink::SinkResult;
@@ -21,14 +22,15 @@ pub struct Counted {
 pub fn sink_call(
     settings: Settings,
     state: SinkState,
+    expected: Expected,
     frame: &[u8],
     out: &mut [u8],
     port: u32,
     tallies: &mut Tallies,
 ) -> SinkResult
-    ensures { λ r. ⌜ CallPromise settings state (now (frame .entry)) (now (out .entry)) port (now (tallies .entry)) r (now (out .exit)) (now (tallies .exit)) ⌝ }
+    ensures { λ r. ⌜ CallPromise settings state expected (now (frame .entry)) (now (out .entry)) port (now (tallies .entry)) r (now (out .exit)) (now (tallies .exit)) ⌝ }
 {
-    let counted = count_call(settings, state, frame, out, port, *tallies);
+    let counted = count_call(settings, state, expected, frame, out, port, *tallies);
     *tallies = counted.tallies;
     counted.result
 }
@@ -38,15 +40,16 @@ pub fn sink_call(
 pub fn lend_call(
     settings: Settings,
     state: SinkState,
+    expected: Expected,
     frame: &[u8],
     out: &mut [u8],
     port: u32,
     tallies: Tallies,
 ) -> Counted
-    ensures { λ r. ⌜ CallPromise settings state (now (frame .entry)) (now (out .entry)) port tallies (r .result) (now (out .exit)) (r .tallies) ⌝ }
+    ensures { λ r. ⌜ CallPromise settings state expected (now (frame .entry)) (now (out .entry)) port tallies (r .result) (now (out .exit)) (r .tallies) ⌝ }
 {
     let mut kept = tallies;
-    let result = sink_call(settings, state, frame, out, port, &mut kept);
+    let result = sink_call(settings, state, expected, frame, out, port, &mut kept);
     Counted {
         result: result,
         tallies: kept,
@@ -57,14 +60,15 @@ pub fn lend_call(
 pub fn count_call(
     settings: Settings,
     state: SinkState,
+    expected: Expected,
     frame: &[u8],
     out: &mut [u8],
     port: u32,
     tallies: Tallies,
 ) -> Counted
-    ensures { λ r. ⌜ CallPromise settings state (now (frame .entry)) (now (out .entry)) port tallies (r .result) (now (out .exit)) (r .tallies) ⌝ }
+    ensures { λ r. ⌜ CallPromise settings state expected (now (frame .entry)) (now (out .entry)) port tallies (r .result) (now (out .exit)) (r .tallies) ⌝ }
 {
-    let result = gmp_sink_call::take_frame(settings, state, frame, out, port);
+    let result = gmp_sink_call::take_frame(settings, state, expected, frame, out, port);
     let answer = result.answer;
     Counted {
         result: result,

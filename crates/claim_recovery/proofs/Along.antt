@@ -1,7 +1,7 @@
--- Along a source run: a sink that holds the true count keeps it and delivers each frame; two frames
--- bring any sink to it; no frame with few wrong control bits makes it false. A frame goes for the
--- one that was written where it is unharmed, and where one wrong control bit is mended. Assumes
--- nothing.
+-- Along a source run: a sink that holds the true count keeps it and delivers each frame that the
+-- payload type lets pass; two frames bring any sink to it; no frame with few wrong control bits
+-- makes it false. A frame goes for the one that was written where it is unharmed, and where one
+-- wrong control bit is mended. Assumes nothing.
 use mathlib.Core.Path.{_≡_, refl, sym, ap, _∙_, subst, subst⁻¹}
 use mathlib.Core.Logic.{_⊎_, inl, inr, ⊎-elim}
 use mathlib.Core.Bool.{Bool, true, false, not, cond}
@@ -34,15 +34,16 @@ use Rattle.gmp_control.proofs.Tables.{rule-of}
 use Rattle.gmp_control.proofs.Reading.{NoneOr}
 use Rattle.gmp_control.proofs.Laws.{in-window-known, Safe, safe-none, follows-true-count, recovers-in-two, stays-safe}
 use Rattle.gmp_frame.specs.declared.Control.{Control}
-use Rattle.gmp_frame.specs.Frame.{controlOf, clientBytes}
-use Rattle.gmp_frame.proofs.Laws.{others-client}
+use Rattle.gmp_frame.specs.Frame.{controlOf, psiOf, clientBytes}
+use Rattle.gmp_frame.proofs.Laws.{others-client, others-psi}
+use Rattle.gmp_payload_type.specs.Types.{gateOpen}
 use Rattle.gmp_source.specs.Source.{controlBytes, written}
 use Rattle.gmp_source.proofs.Laws as source
 use Rattle.gmp_sink.specs.declared.SinkState.{SinkState}
-use Rattle.gmp_sink.specs.Sink.{newSink, handed, readingOf, standingBy, standingAfter, wordAfter, stateAfter, isMended, mendedIn}
+use Rattle.gmp_sink.specs.Sink.{newSink, handed, released, readingOf, standingBy, standingAfter, wordAfter, stateAfter, isMended, mendedIn}
 use Rattle.gmp_sink.proofs.Laws as sink
-use Rattle.claim_recovery.specs.Runs.{Bytes, SourceStep, SinkStep, sinkAfter, frameOf, loadOf, countOf, mendedOf, handedOf}
-use Rattle.claim_recovery.specs.Demand.{Unharmed, wrongControlBits, AtMostWrong, equalFrame, Delivers}
+use Rattle.claim_recovery.specs.Runs.{Bytes, SourceStep, SinkStep, sinkAfter, frameOf, loadOf, countOf, answerOf, mendedOf, handedOf}
+use Rattle.claim_recovery.specs.Demand.{Unharmed, wrongControlBits, AtMostWrong, equalFrame, Hands}
 use Rattle.claim_recovery.specs.Mended.{OneWrong}
 use Rattle.claim_recovery.proofs.Lists.{Each}
 use Rattle.claim_recovery.proofs.Threads.{Link, Chain, Told, followed, Thread}
@@ -61,7 +62,7 @@ module _ (s : Settings) (old : ℕ) (x : SourceStep) (link : Link s old x) where
   next-inside = knows .next-inside
 
   -- frame n is what the definition writes
-  frame-is : frameOf x ≡ written s (x .state) (countOf x) (loadOf x)
+  pub frame-is : frameOf x ≡ written s (x .state) (countOf x) (loadOf x)
   frame-is =
       source.frame-accepted (x .call .settings) (x .state) (countOf x) (loadOf x) (x .call .buffer) (link .taken)
       ∙ ap (λ (u : Settings). written u (x .state) (countOf x) (loadOf x)) (link .settings)
@@ -99,10 +100,11 @@ pub record SameWord (s : Settings) (x : SourceStep) (y : SinkStep) : Type 0 wher
   pub standing : (z : SinkState) → standingAfter s z (controlOf (s .k) (y .call .frame)) ≡ standingAfter s z (controlOf (s .k) (frameOf x))
   pub word : (z : SinkState) → followed s z y .word ≡ stateAfter s z (controlOf (s .k) (frameOf x)) .word
 
--- and has its client bytes.
+-- and has its client bytes and its PSI byte.
 pub record AsWritten (s : Settings) (x : SourceStep) (y : SinkStep) : Type 0 where
   pub leads : SameWord s x y
   pub client : (n : ℕ) → clientBytes (s .k) n (y .call .frame) ≡ clientBytes (s .k) n (frameOf x)
+  pub psi : psiOf (s .k) (y .call .frame) ≡ psiOf (s .k) (frameOf x)
 
 -- An unharmed frame is one.
 pub unharmed : (s : Settings) (x : SourceStep) (y : SinkStep) → Unharmed x y → AsWritten s x y
@@ -114,6 +116,7 @@ unharmed s x y e =
             word = λ z. ap (λ (f : List ℕ). stateAfter s z (controlOf (s .k) f) .word) e;
           };
       client = λ n. ap (clientBytes (s .k) n) e;
+      psi = ap (psiOf (s .k)) e;
     }
 
 -- Where such a frame leads a sink in any state.
@@ -126,6 +129,30 @@ module _ (s : Settings) (old : ℕ) (x : SourceStep) (y : SinkStep) (link : Link
 
   lent-word : followed s z y .word ≡ usable (Word (announced (tableOf s) old (countOf x)))
   lent-word = same .word z ∙ ap (λ (c : Control). stateAfter s z c .word) (control-is s old x link) ∙ word-written s old (countOf x) z
+
+-- A frame at a sink with the true count: the answer, and its load where the gate of the payload
+-- type is open, and nothing where it is shut.
+pub record Kept (s : Settings) (x : SourceStep) (y : SinkStep) : Type 0 where
+  pub answers : answerOf y ≡ accepted (finding (cond (equalFrame x) READ TRACKED) (Known (countOf x)))
+  pub opened : gateOpen (s .«type_check») (y .state .types) (y .call .expected) ≡ true → Hands (loadOf x) y
+  pub closed : gateOpen (s .«type_check») (y .state .types) (y .call .expected) ≡ false → Hands [] y
+
+-- what an accepted call hands out, and where
+module _ (s : Settings) (z : SinkState) (y : SinkStep) (told : Told s z y) where
+  handed-is : handedOf y ≡ released s z (y .call .expected) (y .call .frame)
+  handed-is =
+      sink.handed-accepted (y .call .settings) (y .state) (y .call .frame) (y .call .expected) (y .call .out) (y .call .port) (told .taken)
+      ∙ ap (λ (u : Settings). released u (y .state) (y .call .expected) (y .call .frame)) (told .settings)
+      ∙ ap (λ (q : SinkState). released s q (y .call .expected) (y .call .frame)) (told .from)
+
+  hands : (bytes : List ℕ) → handedOf y ≡ bytes → Hands bytes y
+  hands bytes e =
+      record {
+        handed = e;
+        buffer = sink.out-accepted (y .call .settings) (y .state) (y .call .frame) (y .call .expected) (y .call .out) (y .call .port) (told .taken)
+            ∙ ap (λ (l : List ℕ). l ++ drop (length l) (y .call .out))
+            (sym (sink.handed-accepted (y .call .settings) (y .state) (y .call .frame) (y .call .expected) (y .call .out) (y .call .port) (told .taken)) ∙ e);
+      }
 
 -- One frame, lent so to a sink that holds the true count.
 module _ (s : Settings) (old : ℕ) (x : SourceStep) (z : SinkState) (y : SinkStep) (link : Link s old x) (told : Told s z y) (whole : AsWritten s x y) (held : z .count ≡ Known old) where
@@ -142,36 +169,32 @@ module _ (s : Settings) (old : ℕ) (x : SourceStep) (z : SinkState) (y : SinkSt
   step-holds : sinkAfter y .count ≡ Known (countOf x)
   step-holds =
       ap (λ (q : SinkState). q .count)
-      (sink.state-accepted (y .call .settings) (y .state) (y .call .frame) (y .call .out) (y .call .port) (told .taken)
+      (sink.state-accepted (y .call .settings) (y .state) (y .call .frame) (y .call .expected) (y .call .out) (y .call .port) (told .taken)
       ∙ ap (λ (u : Settings). followed u (y .state) y) (told .settings)
       ∙ ap (λ (q : SinkState). followed s q y) (told .from))
       ∙ step-count
 
-  step-load : handedOf y ≡ loadOf x
+  step-load : handed s z (y .call .frame) ≡ loadOf x
   step-load =
       let a = knows s old x link in
       let n : length (loadOf x) ≡ old = a .client ∙ link .from in
-      sink.handed-accepted (y .call .settings) (y .state) (y .call .frame) (y .call .out) (y .call .port) (told .taken)
-      ∙ ap (λ (u : Settings). handed u (y .state) (y .call .frame)) (told .settings)
-      ∙ ap (λ (q : SinkState). handed s q (y .call .frame)) (told .from)
-      ∙ sink.handed-known s z (y .call .frame) old (ap (inWindow s) held ∙ in-window-known s old (old-inside s old x link))
+      sink.handed-known s z (y .call .frame) old (ap (inWindow s) held ∙ in-window-known s old (old-inside s old x link))
       ∙ whole .client old ∙ ap (clientBytes (s .k) old) (frame-is s old x link)
       ∙ ap (λ (c : ℕ). clientBytes (s .k) c (written s (x .state) (countOf x) (loadOf x))) (sym n)
       ∙ source.client-of-written s (x .state) (countOf x) (loadOf x)
       (source.client-fits s (x .state) (countOf x) (length (loadOf x)) (length (x .call .buffer)) a)
 
-  step-delivers : Delivers x y
-  step-delivers =
+  step-kept : Kept s x y
+  step-kept =
+      let gate = ap (λ (q : SinkState). gateOpen (s .«type_check») (q .types) (y .call .expected)) (told .from) in
       record {
-        standing = sink.answer-accepted (y .call .settings) (y .state) (y .call .frame) (y .call .out) (y .call .port) (told .taken)
+        answers = sink.answer-accepted (y .call .settings) (y .state) (y .call .frame) (y .call .out) (y .call .port) (told .taken)
             ∙ ap (λ (u : Settings). accepted (standingAfter u (y .state) (controlOf (u .k) (y .call .frame)))) (told .settings)
             ∙ ap (λ (q : SinkState). accepted (standingAfter s q (controlOf (s .k) (y .call .frame)))) (told .from)
             ∙ ap accepted step-standing
             ∙ ap (λ (b : Bool). accepted (finding (cond b READ TRACKED) (Known (countOf x)))) (sym (equal-is s old x link));
-        load = step-load;
-        buffer = sink.out-accepted (y .call .settings) (y .state) (y .call .frame) (y .call .out) (y .call .port) (told .taken)
-            ∙ ap (λ (l : List ℕ). l ++ drop (length l) (y .call .out))
-            (sym (sink.handed-accepted (y .call .settings) (y .state) (y .call .frame) (y .call .out) (y .call .port) (told .taken)) ∙ step-load);
+        opened = λ o. hands s z y told (loadOf x) (handed-is s z y told ∙ sink.released-open s z (y .call .frame) (y .call .expected) (sym gate ∙ o) ∙ step-load);
+        closed = λ o. hands s z y told [] (handed-is s z y told ∙ sink.released-shut s z (y .call .frame) (y .call .expected) (sym gate ∙ o));
       }
 
 -- the count of the last frame read
@@ -180,20 +203,20 @@ countAfter old xs [] = old
 countAfter old [] (y ∷ ys) = old
 countAfter old (x ∷ xs) (y ∷ ys) = countAfter (countOf x) xs ys
 
--- what comes of a frame that goes for the written one: it is delivered, and its count is held
-abbrev pub Went : (SourceStep → SinkStep → Type 0) → SourceStep → SinkStep → Type 0
-Went Lent x y = Delivers x y × (sinkAfter y .count ≡ Known (countOf x)) × Lent x y
+-- what comes of a frame that goes for the written one: it is kept, and its count is held
+abbrev pub Went : Settings → (SourceStep → SinkStep → Type 0) → SourceStep → SinkStep → Type 0
+Went s Lent x y = Kept s x y × (sinkAfter y .count ≡ Known (countOf x)) × Lent x y
 
 -- A sink with the true count, over any number of frames that go for the written ones.
 module _ (s : Settings) (Lent : SourceStep → SinkStep → Type 0) (goes : (x : SourceStep) (y : SinkStep) → Lent x y → AsWritten s x y) where
   pub in-step : (old : ℕ) (xs : List SourceStep) (z : SinkState) (ys : List SinkStep) (end : SinkState) → Chain s old xs → Thread s z ys end → Each Lent xs ys
-      → z .count ≡ Known old → (end .count ≡ Known (countAfter old xs ys)) × Each (Went Lent) xs ys
+      → z .count ≡ Known old → (end .count ≡ Known (countAfter old xs ys)) × Each (Went s Lent) xs ys
   in-step old xs z [] end c h r held = (ap (λ (q : SinkState). q .count) h ∙ held, tt)
   in-step old [] z (y ∷ ys) end c h r held = absurd r
   in-step old (x ∷ xs) z (y ∷ ys) end c h r held =
       let a = goes x y (r .0) in
       let later = in-step (countOf x) xs (followed s z y) ys end (c .1) (h .1) (r .1) (step-count s old x z y (c .0) (h .0) a held) in
-      (later .0, ((step-delivers s old x z y (c .0) (h .0) a held, step-holds s old x z y (c .0) (h .0) a held, r .0), later .1))
+      (later .0, ((step-kept s old x z y (c .0) (h .0) a held, step-holds s old x z y (c .0) (h .0) a held, r .0), later .1))
 
   -- Two frames bring a sink in any state to the true count.
   two-frames : (old : ℕ) (x x₂ : SourceStep) (z : SinkState) (y y₂ : SinkStep) → Link s old x → Link s (countOf x) x₂ → SameWord s x y → SameWord s x₂ y₂
@@ -210,7 +233,7 @@ module _ (s : Settings) (Lent : SourceStep → SinkStep → Type 0) (goes : (x :
   -- A sink in any state, over two frames or more: it holds the count of the last, and delivers each
   -- frame after the first two.
   pub recovers : (old : ℕ) (xs : List SourceStep) (z : SinkState) (ys : List SinkStep) (end : SinkState) → Chain s old xs → Thread s z ys end → Each Lent xs ys
-      → 2 ≤ length ys → (end .count ≡ Known (countAfter old xs ys)) × Each (Went Lent) (drop 2 xs) (drop 2 ys)
+      → 2 ≤ length ys → (end .count ≡ Known (countAfter old xs ys)) × Each (Went s Lent) (drop 2 xs) (drop 2 ys)
   recovers old xs z [] end c h r l = absurd (omega arith)
   recovers old xs z (y ∷ []) end c h r l = absurd (omega arith)
   recovers old [] z (y ∷ y₂ ∷ ys) end c h r l = absurd r
@@ -350,6 +373,7 @@ module _ (s : Settings) (on : s .mending ≡ true) (old : ℕ) (x : SourceStep) 
             record {
               leads = ⊎-elim (λ bad. absurd (r .4 (sym (r .1) ∙ bad))) (λ same. same) (itself s old x y link (r .0) (r .1) (r .2));
               client = λ n. others-client (s .k) n (y .call .frame) (frameOf x) long (one .others);
+              psi = others-psi (s .k) (y .call .frame) (frameOf x) (one .others);
             };
         told = sink.mended-accepted (y .call .settings) (y .state) (y .call .frame) (y .call .out) (y .call .port) (told .taken)
             ∙ ap (λ (u : Settings). mendedIn u (controlOf (u .k) (y .call .frame))) (told .settings)

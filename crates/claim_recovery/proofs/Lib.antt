@@ -1,7 +1,9 @@
 pub mod Lists
 pub mod Threads
-mod Along
+pub mod Along
+pub mod Types
 pub mod Claims
 mod Tallied
 mod Observed
 mod Flagged
+mod Swapped

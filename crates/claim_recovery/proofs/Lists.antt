@@ -28,6 +28,12 @@ each-at R [] (y ∷ ys) i h r = absurd r
 each-at R (x ∷ xs) (y ∷ ys) zero h r = (x, y, refl, refl, r .0)
 each-at R (x ∷ xs) (y ∷ ys) (suc i) h r = each-at R xs ys i (le-of-suc-le-suc h) (r .1)
 
+-- what follows of each from two things
+pub each-both : {A B : Type 0} (R S T : A → B → Type 0) → ((x : A) (y : B) → R x y → S x y → T x y) → (xs : List A) (ys : List B) → Each R xs ys → Each S xs ys → Each T xs ys
+each-both R S T f xs [] r t = tt
+each-both R S T f [] (y ∷ ys) r t = absurd r
+each-both R S T f (x ∷ xs) (y ∷ ys) r t = (f x y (r .0) (t .0), each-both R S T f xs ys (r .1) (t .1))
+
 -- one thing at a place
 at-same : {A : Type 0} (l : List A) (i : ℕ) (x y : A) → At l i x → At l i y → x ≡ y
 at-same [] i x y p q = absurd p

@@ -72,8 +72,8 @@ as-defined =
       contracts =
           record {
             source-call = λ κs s z next client buffer r frame p. p;
-            count-call = λ κs s z frame buffer port y r out p. p;
-            lend-call = λ κs s z frame buffer port y r out p. p;
+            count-call = λ κs s z w frame buffer port y r out p. p;
+            lend-call = λ κs s z w frame buffer port y r out p. p;
           };
       source = source-is;
       refusal = λ x. x .kept .refusal;

@@ -26,7 +26,7 @@ sumOf y ys = added y (length ys) (badFramesOf ys) (bytesOf ys)
 
 -- the tallies after one call
 abbrev after : SinkStep → Tallies → Tallies
-after x y = talliesAfter (x .call .settings) (x .state) (x .call .frame) (x .call .out) (x .call .port) y
+after x y = talliesAfter (x .call .settings) (x .state) (x .call .expected) (x .call .frame) (x .call .out) (x .call .port) y
 
 after-accepted : (x : SinkStep) (y : Tallies) → sinkTakes x ≡ true → after x y ≡ counted y (x .call .port) 1 (badIn (answerOf x)) (length (handedOf x))
 unfolding talliesAfter

@@ -6,12 +6,11 @@ use Prim.Native.Nat.{ℕ, zero, suc}
 use lib.ListN.{length, drop}
 use borrow.Author.Tests.{eqb-true, eqb-false}
 use Rattle.gmp_settings.specs.declared.Settings.{Settings}
-use Rattle.gmp_frame.specs.Frame.{controlOf}
 use Rattle.gmp_source.specs.declared.SourceState.{SourceState}
 use Rattle.gmp_source.specs.Source.{sourceRefusal}
 use Rattle.gmp_source.proofs.Laws as source
 use Rattle.gmp_sink.specs.declared.SinkState.{SinkState}
-use Rattle.gmp_sink.specs.Sink.{sinkRefusal, stateAfter}
+use Rattle.gmp_sink.specs.Sink.{sinkRefusal, frameAfter}
 use Rattle.gmp_sink.proofs.Laws as sink
 use Rattle.claim_recovery.specs.Runs.{At, SourceCall, SinkCall, SourceStep, SinkStep, sourceTakes, sinkTakes, sourceAfter, sinkAfter, sourceSteps, sinkSteps, sinkEnd}
 
@@ -62,7 +61,7 @@ pub record Told (s : Settings) (z : SinkState) (y : SinkStep) : Type 0 where
 
 -- the state after it
 abbrev pub followed : Settings → SinkState → SinkStep → SinkState
-followed s z y = stateAfter s z (controlOf (s .k) (y .call .frame))
+followed s z y = frameAfter s z (y .call .expected) (y .call .frame)
 
 -- each from the state that the one before it left, to the end e
 abbrev pub Thread : Settings → SinkState → List SinkStep → SinkState → Type 0
@@ -79,11 +78,11 @@ thread-by s y true rest e t sh later =
     let z = eqb-true _ 0 t in (
       record { settings = q; from = refl; taken = z },
       subst (λ (w : SinkState). Thread s w rest e)
-          (sink.state-accepted (y .call .settings) (y .state) (y .call .frame) (y .call .out) (y .call .port) z ∙ ap (λ (u : Settings). followed u (y .state) y) q)
+          (sink.state-accepted (y .call .settings) (y .state) (y .call .frame) (y .call .expected) (y .call .out) (y .call .port) z ∙ ap (λ (u : Settings). followed u (y .state) y) q)
           (later (λ i x p. sh (suc i) x p)),
     )
 thread-by s y false rest e t sh later =
-    subst (λ (w : SinkState). Thread s w rest e) (sink.state-refused (y .call .settings) (y .state) (y .call .frame) (y .call .out) (y .call .port) (eqb-false _ 0 t)) (later sh)
+    subst (λ (w : SinkState). Thread s w rest e) (sink.state-refused (y .call .settings) (y .state) (y .call .frame) (y .call .expected) (y .call .out) (y .call .port) (eqb-false _ 0 t)) (later sh)
 
 pub thread : (s : Settings) (z : SinkState) (calls : List SinkCall) → SharedSink s (sinkSteps z calls) → Thread s z (sinkSteps z calls) (sinkEnd z calls)
 unfolding sinkSteps sinkEnd

@@ -2,10 +2,11 @@
 -- Assumes nothing.
 use mathlib.Core.Path.{_≡_}
 use mathlib.Core.Logic.{_⊎_}
-use mathlib.Core.Bool.{Bool, cond}
-use mathlib.Core.List.{List, [], _++_}
-use Prim.Native.Nat.{ℕ, _+_, _-_, _≤_}
-use lib.ListN.{length, drop}
+use mathlib.Core.Bool.{Bool, true, false, cond}
+use mathlib.Core.List.{List, [], _∷_, _++_}
+use Prim.Native.Nat.{ℕ, suc, _+_, _-_, _≤_, _%_}
+use lib.Dec.{eqb}
+use lib.ListN.{length, take, drop}
 use Rattle.gmp_crc8.specs.Check.{wrongBits}
 use Rattle.gmp_crc8.specs.Claims.{budget}
 use Rattle.gmp_settings.specs.declared.Settings.{Settings}
@@ -15,11 +16,12 @@ use Rattle.gmp_standing.specs.Standing.{finding, READ, TRACKED}
 use Rattle.gmp_control.specs.Word.{equalIndicators, wordBy}
 use Rattle.gmp_frame.specs.declared.Control.{Control}
 use Rattle.gmp_frame.specs.Frame.{controlOf}
+use Rattle.gmp_payload_type.specs.declared.AcceptedType.the-variants.{PayloadType}
 use Rattle.gmp_source.specs.declared.SourceState.{SourceState}
 use Rattle.gmp_source.specs.Source.{newSource}
 use Rattle.gmp_sink.specs.declared.SinkState.{SinkState}
 use Rattle.gmp_sink.specs.Sink.{newSink}
-use Rattle.claim_recovery.specs.Runs.{Nth, SourceCall, SinkCall, SourceStep, SinkStep, sourceSteps, sinkSteps, sinkEnd, frameOf, loadOf, countOf, answerOf, handedOf, outOf}
+use Rattle.claim_recovery.specs.Runs.{Nth, SourceCall, SinkCall, SourceStep, SinkStep, sourceSteps, sinkSteps, sinkEnd, frameOf, loadOf, countOf, numberOf, answerOf, handedOf, outOf}
 
 -- A source run: any list of calls from a new source. Its accepted calls share the settings s; those
 -- that made the source are free.
@@ -56,20 +58,28 @@ AtMostWrong most s x y = wrongControlBits (controlOf (s .k) (frameOf x)) (contro
 abbrev pub equalFrame : SourceStep → Bool
 equalFrame x = let c = controlOf (x .call .settings .k) (frameOf x) in equalIndicators (wordBy (c .jc1) (c .jc2))
 
+-- The call hands out exactly these bytes, "at the start of the output buffer, with the bytes after
+-- it unchanged".
+pub record Hands (bytes : List ℕ) (y : SinkStep) : Type 0 where
+  pub handed : handedOf y ≡ bytes
+  pub buffer : outOf y ≡ bytes ++ drop (length bytes) (y .call .out)
+
 -- The call answers count i, "READ where frame i has II = DI and otherwise TRACKED", and hands out
--- "exactly load i, at the start of the output buffer, with the bytes after it unchanged".
-pub record Delivers (x : SourceStep) (y : SinkStep) : Type 0 where
+-- "exactly load i": where the payload type is not checked; where it is, that or nothing, and when
+-- it is that the typed recovery below says (02, P4: "With the check on, the bytes of demand 3 come
+-- later").
+pub record Delivers (s : Settings) (x : SourceStep) (y : SinkStep) : Type 0 where
   pub standing : answerOf y ≡ accepted (finding (cond (equalFrame x) READ TRACKED) (Known (countOf x)))
-  pub load : handedOf y ≡ loadOf x
-  pub buffer : outOf y ≡ loadOf x ++ drop (length (loadOf x)) (y .call .out)
+  pub unchecked : s .«type_check» ≡ false → Hands (loadOf x) y
+  pub no-other : Hands (loadOf x) y ⊎ Hands [] y
 
 -- Two sinks that read up to frame n, a new one from frame 1 and one in the state z from frame m:
 -- "after them both sinks hold count n", and "for each frame i from m + 2 to n both accepted calls"
 -- deliver frame i. (The new sink's call for frame i is its i-th, the other's its (i + 1 - m)-th.)
-pub record Recovered (sent : List SourceStep) (m n : ℕ) (fromFirst : List SinkCall) (z : SinkState) (fromAny : List SinkCall) : Type 0 where
+pub record Recovered (s : Settings) (sent : List SourceStep) (m n : ℕ) (fromFirst : List SinkCall) (z : SinkState) (fromAny : List SinkCall) : Type 0 where
   pub hold : (x : SourceStep) × Nth sent n x × (sinkEnd newSink fromFirst .count ≡ Known (countOf x)) × (sinkEnd z fromAny .count ≡ Known (countOf x))
   pub deliver : (i : ℕ) → m + 2 ≤ i → i ≤ n → (x : SourceStep) × (y : SinkStep) × (y′ : SinkStep)
-      × Nth sent i x × Nth (sinkSteps newSink fromFirst) i y × Nth (sinkSteps z fromAny) (i + 1 - m) y′ × Delivers x y × Delivers x y′
+      × Nth sent i x × Nth (sinkSteps newSink fromFirst) i y × Nth (sinkSteps z fromAny) (i + 1 - m) y′ × Delivers s x y × Delivers s x y′
 
 -- The first claim: "For every source run, every m and every two sink runs that read it unharmed up
 -- to the same frame n, n at least m + 1, one of a new sink from frame 1, the other of a sink in any
@@ -80,7 +90,58 @@ Recovery =
     → (m n : ℕ) → m + 1 ≤ n
     → (fromFirst : List SinkCall) → Reads s (sourceSteps source calls) Unharmed 1 n newSink fromFirst
     → (z : SinkState) (fromAny : List SinkCall) → Reads s (sourceSteps source calls) Unharmed m n z fromAny
-    → Recovered (sourceSteps source calls) m n fromFirst z fromAny
+    → Recovered s (sourceSteps source calls) m n fromFirst z fromAny
+
+-- The frame is lent so, and the sink is told the number that the source wrote it with, modulo 256,
+-- and that this type is expected (02, P4: "a user who passes on the source's own multiframe numbers
+-- and one expected type").
+pub record PassedOn (Lent : SourceStep → SinkStep → Type 0) (payload-type : ℕ) (x : SourceStep) (y : SinkStep) : Type 0 where
+  pub lent : Lent x y
+  pub number : y .call .expected .multiframe % 256 ≡ numberOf x
+  pub expected : y .call .expected .«payload_type» ≡ payload-type
+
+-- how many of these frames are numbered 0, and how many of the frames m to i - 1
+abbrev pub zeroFrames : List SourceStep → ℕ
+zeroFrames [] = 0
+zeroFrames (x ∷ xs) = cond (eqb (numberOf x) 0) (suc (zeroFrames xs)) (zeroFrames xs)
+
+abbrev pub zerosBefore : List SourceStep → ℕ → ℕ → ℕ
+zerosBefore sent m i = zeroFrames (take (i - m) (drop (m - 1) sent))
+
+-- The gate for frame i, of a source of this type, at a sink that began in the state z with frame m:
+-- the sink had accepted the type before, or "three unharmed frames numbered 0 .. have also come",
+-- so that at least three of the frames m to i - 1 are numbered 0.
+abbrev pub TypeCame : SourceState → List SourceStep → (m i : ℕ) → SinkState → Type 0
+TypeCame source sent m i z = (z .types .accepted ≡ PayloadType (source .«payload_type»)) ⊎ (3 ≤ zerosBefore sent m i)
+
+-- The call for frame i hands out exactly its load where the source's type is the expected one, and
+-- nothing where it is another.
+pub record Typed (source : SourceState) (sent : List SourceStep) (expected m i : ℕ) (z : SinkState) (reader : List SinkCall) : Type 0 where
+  pub frame : SourceStep
+  pub call : SinkStep
+  pub sent-as : Nth sent i frame
+  pub read-by : Nth (sinkSteps z reader) (i + 1 - m) call
+  pub same : source .«payload_type» ≡ expected → Hands (loadOf frame) call
+  pub other : (source .«payload_type» ≡ expected → ⊥) → Hands [] call
+
+-- so for each of the frames first to n for which the type came
+abbrev pub TypedEach : SourceState → List SourceStep → (expected m first n : ℕ) → SinkState → List SinkCall → Type 0
+TypedEach source sent expected m first n z reader = (i : ℕ) → first ≤ i → i ≤ n → TypeCame source sent m i z → Typed source sent expected m i z reader
+
+-- The first claim's bytes with the type check on (02, P4): a sink in any state that reads from
+-- frame m unharmed, told each frame's own number and one type. Its count it has after two frames,
+-- as the first claim says.
+abbrev pub TypedRecovery : Type 0
+TypedRecovery =
+    (s : Settings) → s .«type_check» ≡ true → (source : SourceState) (calls : List SourceCall) → SourceRun s source calls
+    → (expected m n : ℕ) (z : SinkState) (reader : List SinkCall) → Reads s (sourceSteps source calls) (PassedOn Unharmed expected) m n z reader
+    → TypedEach source (sourceSteps source calls) expected m (m + 2) n z reader
+
+-- Any 768 frames in succession hold three numbered 0: the frames m to i - 1, which were sent.
+abbrev pub ThreeCome : Type 0
+ThreeCome =
+    (s : Settings) (source : SourceState) (calls : List SourceCall) → SourceRun s source calls
+    → (m i : ℕ) → 1 ≤ m → m + 768 ≤ i → i ≤ length (sourceSteps source calls) + 1 → 3 ≤ zerosBefore (sourceSteps source calls) m i
 
 -- "the sink holds no count, or count n of the last frame n that it read; no count where it read
 -- none"
@@ -102,4 +163,6 @@ NoFalseCount mending most =
 -- frames is as before".
 pub record Demand3 : Type 0 where
   pub recovery : Recovery
+  pub typed-recovery : TypedRecovery
+  pub three-come : ThreeCome
   pub no-false-count : (mending : Bool) → NoFalseCount mending (budget mending)

@@ -19,5 +19,5 @@ use Rattle.card_sink.proofs.sink_call as call
 pub lent-tallies-promises : {M : Type 1} (𝓤 : URA M) (H : Heap 𝓤) (A : Atoms 𝓤) (mem : Memory → SProp 𝓤) (run : Routine → Fun 𝓤) (κs : Lfts 3)
     (a : Args call.signature κs) (r : SinkResult) (e : AtExit call.ended κs)
     → call.clauses 𝓤 H A mem run κs a .ensures tt r e
-    ≡ fact 𝓤 (CallPromise (a .0) (a .1 .0) (a .1 .1 .0 .now) (a .1 .1 .1 .0 .now) (a .1 .1 .1 .1 .0) (a .1 .1 .1 .1 .1 .0 .now) r (e .1 .1 .1 .0 .now) (e .1 .1 .1 .1 .1 .0 .now))
+    ≡ fact 𝓤 (CallPromise (a .0) (a .1 .0) (a .1 .1 .0) (a .1 .1 .1 .0 .now) (a .1 .1 .1 .1 .0 .now) (a .1 .1 .1 .1 .1 .0) (a .1 .1 .1 .1 .1 .1 .0 .now) r (e .1 .1 .1 .1 .0 .now) (e .1 .1 .1 .1 .1 .1 .0 .now))
 lent-tallies-promises 𝓤 H A mem run κs a r e = refl

@@ -3,6 +3,7 @@
 pub mod Runs
 pub mod Demand
 pub mod Mended
+pub mod Swapped
 pub mod Tallied
 pub mod Observed
 pub mod Lent

@@ -17,6 +17,7 @@ use Rattle.gmp_source.specs.declared.SourceState.{SourceState}
 use Rattle.gmp_source.specs.declared.SourceResult.{SourceResult}
 use Rattle.gmp_source.specs.Source.{SourcePromise}
 use Rattle.gmp_source_call.proofs.source_call.Reads as source-reading
+use Rattle.gmp_payload_type.specs.declared.Expected.{Expected}
 use Rattle.gmp_sink.specs.declared.SinkState.{SinkState}
 use Rattle.gmp_sink.specs.declared.SinkResult.{SinkResult}
 use Rattle.gmp_sink.specs.Sink.{answerMeaning}
@@ -42,7 +43,7 @@ pub record SinkSeen : Type 0 where
   pub result : SinkResult
   pub out : List ℕ
   pub tallies-after : Tallies
-  pub kept : CallPromise (step .call .settings) (step .state) (step .call .frame) (step .call .out) (step .call .port) tallies result out tallies-after
+  pub kept : CallPromise (step .call .settings) (step .state) (step .call .expected) (step .call .frame) (step .call .out) (step .call .port) tallies result out tallies-after
 
 -- "Each call gets the state that the call before it in its list returned", the first one z,
 abbrev pub SourcePassed : SourceState → List SourceSeen → Type 0
@@ -89,12 +90,12 @@ pub record ContractsPromise : Type 0 where
   pub source-call : (κs : Lfts 2) (s : Settings) (z : SourceState) (next : ℕ) (client buffer : RefT (List ℕ)) (r : SourceResult) (frame : List ℕ)
       → source-reading.Learnt κs (s, (z, (next, (client, (buffer, tt))))) r (s, (z, (next, (client, (at-last buffer frame, tt)))))
       → SourcePromise s z next (client .now) (buffer .now) r frame
-  pub count-call : (κs : Lfts 2) (s : Settings) (z : SinkState) (frame buffer : RefT (List ℕ)) (port : ℕ) (y : Tallies) (r : Counted) (out : List ℕ)
-      → count-reading.Learnt κs (s, (z, (frame, (buffer, (port, (y, tt)))))) r (s, (z, (frame, (at-last buffer out, (port, (y, tt))))))
-      → CallPromise s z (frame .now) (buffer .now) port y (r .result) out (r .tallies)
-  pub lend-call : (κs : Lfts 2) (s : Settings) (z : SinkState) (frame buffer : RefT (List ℕ)) (port : ℕ) (y : Tallies) (r : Counted) (out : List ℕ)
-      → lend-reading.Learnt κs (s, (z, (frame, (buffer, (port, (y, tt)))))) r (s, (z, (frame, (at-last buffer out, (port, (y, tt))))))
-      → CallPromise s z (frame .now) (buffer .now) port y (r .result) out (r .tallies)
+  pub count-call : (κs : Lfts 2) (s : Settings) (z : SinkState) (w : Expected) (frame buffer : RefT (List ℕ)) (port : ℕ) (y : Tallies) (r : Counted) (out : List ℕ)
+      → count-reading.Learnt κs (s, (z, (w, (frame, (buffer, (port, (y, tt))))))) r (s, (z, (w, (frame, (at-last buffer out, (port, (y, tt)))))))
+      → CallPromise s z w (frame .now) (buffer .now) port y (r .result) out (r .tallies)
+  pub lend-call : (κs : Lfts 2) (s : Settings) (z : SinkState) (w : Expected) (frame buffer : RefT (List ℕ)) (port : ℕ) (y : Tallies) (r : Counted) (out : List ℕ)
+      → lend-reading.Learnt κs (s, (z, (w, (frame, (buffer, (port, (y, tt))))))) r (s, (z, (w, (frame, (at-last buffer out, (port, (y, tt)))))))
+      → CallPromise s z w (frame .now) (buffer .now) port y (r .result) out (r .tallies)
 
 -- Calls that keep their promises go as the definitions go. The accepted calls of a run are its
 -- steps, each answers, says of mending and leaves in its buffer what the step does, and the last

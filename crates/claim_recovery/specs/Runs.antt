@@ -12,7 +12,8 @@ use Rattle.gmp_settings.specs.declared.Settings.{Settings}
 use Rattle.refusals.specs.Table.{Answer}
 use Rattle.gmp_standing.specs.Standing.{Finding}
 use Rattle.gmp_source.specs.declared.SourceState.{SourceState}
-use Rattle.gmp_source.specs.Source.{sourceRefusal, sourceState, sourceFrame}
+use Rattle.gmp_source.specs.Source.{sourceRefusal, multiframeNumber, sourceState, sourceFrame}
+use Rattle.gmp_payload_type.specs.declared.Expected.{Expected}
 use Rattle.gmp_sink.specs.declared.SinkState.{SinkState}
 use Rattle.gmp_sink.specs.Sink.{sinkRefusal, sinkAnswer, sinkState, sinkMended, sinkHanded, sinkOut}
 
@@ -40,10 +41,12 @@ pub record SourceCall : Type 0 where
   pub client : List ℕ
   pub buffer : List ℕ
 
--- what the caller of a sink chooses: the settings, the frame that is lent, of bytes, the output
--- buffer, and the port (02, P2: "each sink call names its port")
+-- what the caller of a sink chooses: the settings, what the sink is told of the frame (02, P4: "the
+-- multiframe number and the type expected"), the frame that is lent, of bytes, the output buffer,
+-- and the port (02, P2: "each sink call names its port")
 pub record SinkCall : Type 0 where
   pub settings : Settings
+  pub expected : Expected
   pub frame : List ℕ
   pub bytes : Bytes frame
   pub out : List ℕ
@@ -74,7 +77,7 @@ abbrev pub sourceAfter : SourceStep → SourceState
 sourceAfter x = sourceState (x .call .settings) (x .state) (x .call .next) (x .call .client) (x .call .buffer)
 
 abbrev pub sinkAfter : SinkStep → SinkState
-sinkAfter y = sinkState (y .call .settings) (y .state) (y .call .frame) (y .call .out) (y .call .port)
+sinkAfter y = sinkState (y .call .settings) (y .state) (y .call .expected) (y .call .frame) (y .call .out) (y .call .port)
 
 -- the accepted calls of a source run from the state z, in order, each with the state that it was
 -- given
@@ -109,6 +112,10 @@ loadOf x = x .call .client
 abbrev pub countOf : SourceStep → ℕ
 countOf x = x .call .next
 
+-- the multiframe number of frame n
+abbrev pub numberOf : SourceStep → ℕ
+numberOf x = multiframeNumber (x .state)
+
 -- what an accepted sink call answers, whether it mended a bit (02, P1), the bytes that it hands
 -- out, and the output buffer after it
 abbrev pub answerOf : SinkStep → Answer Finding
@@ -118,7 +125,7 @@ abbrev pub mendedOf : SinkStep → Bool
 mendedOf y = sinkMended (y .call .settings) (y .call .frame) (y .call .out) (y .call .port)
 
 abbrev pub handedOf : SinkStep → List ℕ
-handedOf y = sinkHanded (y .call .settings) (y .state) (y .call .frame) (y .call .out) (y .call .port)
+handedOf y = sinkHanded (y .call .settings) (y .state) (y .call .expected) (y .call .frame) (y .call .out) (y .call .port)
 
 abbrev pub outOf : SinkStep → List ℕ
-outOf y = sinkOut (y .call .settings) (y .state) (y .call .frame) (y .call .out) (y .call .port)
+outOf y = sinkOut (y .call .settings) (y .state) (y .call .expected) (y .call .frame) (y .call .out) (y .call .port)

@@ -21,7 +21,7 @@ use Rattle.claim_recovery.specs.Runs.{SinkStep, sinkTakes, answerOf, han
 -- ports, in the order in which they were made, each with the state that it was given.
 unfoldable pub talliesEnd : Tallies → List SinkStep → Tallies
 talliesEnd y [] = y
-talliesEnd y (x ∷ xs) = talliesEnd (talliesAfter (x .call .settings) (x .state) (x .call .frame) (x .call .out) (x .call .port) y) xs
+talliesEnd y (x ∷ xs) = talliesEnd (talliesAfter (x .call .settings) (x .state) (x .call .expected) (x .call .frame) (x .call .out) (x .call .port) y) xs
 
 -- whether a call was accepted and named port p, and those among them
 abbrev pub countsOn : ℕ → SinkStep → Bool

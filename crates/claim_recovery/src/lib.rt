@@ -2,26 +2,35 @@
 // body.
 ghost use Rattle.claim_recovery.specs.Demand.{Demand3};
 ghost use Rattle.claim_recovery.specs.Mended.{CostsNothing, SinksOwn};
+ghost use Rattle.claim_recovery.specs.Swapped.{OnlyExpectedType};
 ghost use Rattle.claim_recovery.specs.Tallied.{TallySums};
 ghost use Rattle.claim_recovery.specs.Observed.{AsDefined};
 
-// Two unharmed frames find the count from any state, and up to three wrong control bits a frame, or
-// two where mending is on, give no false count.
+// Two unharmed frames find the count from any state, and with it the bytes. Where the payload type
+// is checked, each call is told the source's own number and all its type as the expected one, the
+// bytes come behind the third frame numbered 0 at the latest. Up to three wrong control bits a
+// frame, or two where mending is on, give no false count.
 pub fn demand_3()
     ensures { λ _. ⌜ Demand3 ⌝ }
 {}
 
 // With mending on, a sink that holds the source's count keeps it and delivers each frame with at
 // most one wrong control bit, its other bytes unharmed; one in any state does so after two such
-// frames.
+// frames. Where the payload type is checked too, its bytes come as they do by unharmed frames.
 pub fn mending_costs_nothing()
     ensures { λ _. ⌜ CostsNothing ⌝ }
 {}
 
-// Sources do not look at mending, so the claims hold of a sink that mends behind a source whose
-// settings say nothing of it.
-pub fn mending_is_the_sinks()
+// Sources do not look at mending or at the type check, so the claims hold of a sink
+// that mends or checks behind a source whose settings say nothing of it.
+pub fn flags_are_the_sinks()
     ensures { λ _. ⌜ SinksOwn ⌝ }
+{}
+
+// With the type check on, a new sink hands out a byte only where the last type that three frames
+// numbered 0 running had, as it took them with the type check on, is the expected one.
+pub fn only_expected_type()
+    ensures { λ _. ⌜ OnlyExpectedType ⌝ }
 {}
 
 // Each port's tally is the sum over the accepted calls that named it, of all sinks of a card, and

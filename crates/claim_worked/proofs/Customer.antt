@@ -15,15 +15,16 @@ use Rattle.gmp_control.specs.Announce.{announced}
 use Rattle.gmp_control.specs.Follow.{usable, tracked, candidate, paired, reading, foundBy}
 use Rattle.gmp_stuffing.specs.Places.{places, placed, tabulate, chosen}
 use Rattle.gmp_frame.specs.Frame.{row, frame, columns, payload, clientBytes, controlOf}
+use Rattle.gmp_payload_type.specs.Types.{judged, typesAfter, gateOpen}
 use Rattle.gmp_source.specs.Source.{startRefusal, newSource, sourceRefusal, controlBytes, written, sourceState, sourceFrame}
-use Rattle.gmp_sink.specs.Sink.{newSink, sinkRefusal, handed, standingAfter, stateAfter, sinkAnswer, sinkState, sinkHanded, sinkOut}
+use Rattle.gmp_sink.specs.Sink.{newSink, sinkRefusal, handed, standingAfter, stateAfter, sinkAnswer, sinkState, sinkHanded, sinkOut, released}
 use Rattle.claim_recovery.specs.Runs.{SourceStep, sourceSteps, sinkSteps, sinkEnd}
 use Rattle.claim_recovery.specs.Demand.{SourceRun, Unharmed, AtMostWrong}
 use Rattle.claim_worked.specs.Customer.{theirs, begun, sendings, theirNew, theirLost, theirAny, theirNoisy, CustomerRun}
 use Rattle.claim_worked.proofs.Build.{all-nth, reads-by}
 
 their-run : SourceRun theirs begun sendings
-unfolding sourceSteps sinkSteps sinkEnd sourceRefusal sourceState sourceFrame newSource startRefusal written controlBytes announced frame row tabulate placed places remainder divide reduce bits outside sinkRefusal sinkAnswer sinkState sinkHanded sinkOut handed standingAfter stateAfter controlOf foundBy reading inWindow usable tracked candidate paired equalIndicators passes readAs clientBytes chosen payload columns word differing xor tableOf
+unfolding sourceSteps sinkSteps sinkEnd sourceRefusal sourceState sourceFrame newSource startRefusal written controlBytes announced frame row tabulate placed places remainder divide reduce bits outside sinkRefusal sinkAnswer sinkState sinkHanded sinkOut released gateOpen typesAfter judged handed standingAfter stateAfter controlOf foundBy reading inWindow usable tracked candidate paired equalIndicators passes readAs clientBytes chosen payload columns word differing xor tableOf
 their-run =
     record {
       made-with = theirs;
@@ -34,7 +35,7 @@ their-run =
     }
 
 pub customer-run : CustomerRun
-unfolding sourceSteps sinkSteps sinkEnd sourceRefusal sourceState sourceFrame newSource startRefusal written controlBytes announced frame row tabulate placed places remainder divide reduce bits outside sinkRefusal sinkAnswer sinkState sinkHanded sinkOut handed standingAfter stateAfter controlOf foundBy reading inWindow usable tracked candidate paired equalIndicators passes readAs clientBytes chosen payload columns word differing xor tableOf
+unfolding sourceSteps sinkSteps sinkEnd sourceRefusal sourceState sourceFrame newSource startRefusal written controlBytes announced frame row tabulate placed places remainder divide reduce bits outside sinkRefusal sinkAnswer sinkState sinkHanded sinkOut released gateOpen typesAfter judged handed standingAfter stateAfter controlOf foundBy reading inWindow usable tracked candidate paired equalIndicators passes readAs clientBytes chosen payload columns word differing xor tableOf
 customer-run =
     record {
       source-run = their-run;

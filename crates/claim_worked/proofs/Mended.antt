@@ -16,9 +16,10 @@ use Rattle.gmp_control.specs.Announce.{announced}
 use Rattle.gmp_control.specs.Follow.{usable, tracked, candidate, paired, reading, foundBy}
 use Rattle.gmp_stuffing.specs.Places.{places, placed, tabulate, chosen}
 use Rattle.gmp_frame.specs.Frame.{row, frame, columns, payload, clientBytes, controlOf}
+use Rattle.gmp_payload_type.specs.Types.{judged, typesAfter, gateOpen}
 use Rattle.gmp_source.specs.Source.{startRefusal, newSource, sourceRefusal, controlBytes, written, sourceState, sourceFrame}
 use Rattle.gmp_sink.specs.declared.SinkState.{SinkState}
-use Rattle.gmp_sink.specs.Sink.{newSink, sinkRefusal, handed, standingAfter, stateAfter, mendedIn, sinkAnswer, sinkMended, sinkState, sinkHanded, sinkOut}
+use Rattle.gmp_sink.specs.Sink.{newSink, sinkRefusal, handed, standingAfter, stateAfter, mendedIn, sinkAnswer, sinkMended, sinkState, sinkHanded, sinkOut, released}
 use Rattle.claim_recovery.specs.Runs.{SourceStep, sourceSteps, sinkSteps, sinkEnd}
 use Rattle.claim_recovery.specs.Demand.{SourceRun, AtMostWrong}
 use Rattle.claim_recovery.specs.Mended.{OneWrong}
@@ -29,7 +30,7 @@ use Rattle.claim_worked.specs.Mended.{mends, sendings, bit2, bit3, bit5,
 use Rattle.claim_worked.proofs.Build.{all-nth, reads-by, others-by}
 
 mending-source : SourceRun mends source sendings
-unfolding sourceSteps sinkSteps sinkEnd sourceRefusal sourceState sourceFrame newSource startRefusal written controlBytes announced frame row tabulate placed places remainder divide reduce bits outside sinkRefusal sinkAnswer sinkMended mendedIn sinkState sinkHanded sinkOut handed standingAfter stateAfter controlOf foundBy reading inWindow usable tracked candidate paired equalIndicators passes readAs mended wrongBit firstWith oneBit syndrome clientBytes chosen payload columns word differing xor tableOf badFramesOf
+unfolding sourceSteps sinkSteps sinkEnd sourceRefusal sourceState sourceFrame newSource startRefusal written controlBytes announced frame row tabulate placed places remainder divide reduce bits outside sinkRefusal sinkAnswer sinkMended mendedIn sinkState sinkHanded sinkOut released gateOpen typesAfter judged handed standingAfter stateAfter controlOf foundBy reading inWindow usable tracked candidate paired equalIndicators passes readAs mended wrongBit firstWith oneBit syndrome clientBytes chosen payload columns word differing xor tableOf badFramesOf
 mending-source =
     record {
       made-with = mends;
@@ -41,7 +42,7 @@ mending-source =
 
 -- each frame that is read beside the written one, whatever the sink's state is
 ones : (z : SinkState) → Each (OneWrong mends) (sourceSteps source sendings) (sinkSteps z (hearings mends))
-unfolding sourceSteps sinkSteps sinkEnd sourceRefusal sourceState sourceFrame newSource startRefusal written controlBytes announced frame row tabulate placed places remainder divide reduce bits outside sinkRefusal sinkAnswer sinkMended mendedIn sinkState sinkHanded sinkOut handed standingAfter stateAfter controlOf foundBy reading inWindow usable tracked candidate paired equalIndicators passes readAs mended wrongBit firstWith oneBit syndrome clientBytes chosen payload columns word differing xor tableOf badFramesOf
+unfolding sourceSteps sinkSteps sinkEnd sourceRefusal sourceState sourceFrame newSource startRefusal written controlBytes announced frame row tabulate placed places remainder divide reduce bits outside sinkRefusal sinkAnswer sinkMended mendedIn sinkState sinkHanded sinkOut released gateOpen typesAfter judged handed standingAfter stateAfter controlOf foundBy reading inWindow usable tracked candidate paired equalIndicators passes readAs mended wrongBit firstWith oneBit syndrome clientBytes chosen payload columns word differing xor tableOf badFramesOf
 ones z = (
   record { control = lit≤ tt; others = others-by 2 frame1 frame1 tt },
   (
@@ -57,7 +58,7 @@ ones z = (
 )
 
 pub mended-run : MendedRun
-unfolding sourceSteps sinkSteps sinkEnd sourceRefusal sourceState sourceFrame newSource startRefusal written controlBytes announced frame row tabulate placed places remainder divide reduce bits outside sinkRefusal sinkAnswer sinkMended mendedIn sinkState sinkHanded sinkOut handed standingAfter stateAfter controlOf foundBy reading inWindow usable tracked candidate paired equalIndicators passes readAs mended wrongBit firstWith oneBit syndrome clientBytes chosen payload columns word differing xor tableOf badFramesOf
+unfolding sourceSteps sinkSteps sinkEnd sourceRefusal sourceState sourceFrame newSource startRefusal written controlBytes announced frame row tabulate placed places remainder divide reduce bits outside sinkRefusal sinkAnswer sinkMended mendedIn sinkState sinkHanded sinkOut released gateOpen typesAfter judged handed standingAfter stateAfter controlOf foundBy reading inWindow usable tracked candidate paired equalIndicators passes readAs mended wrongBit firstWith oneBit syndrome clientBytes chosen payload columns word differing xor tableOf badFramesOf
 mended-run =
     record {
       source-run = mending-source;

@@ -26,20 +26,22 @@ use Rattle.gmp_control.specs.Follow.{usable, tracked, candidate, paired, readin
 use Rattle.gmp_stuffing.specs.Places.{places, placed, tabulate, chosen}
 use Rattle.gmp_frame.specs.Frame.{row, frame, columns, payload, clientBytes, controlOf}
 use Rattle.gmp_source.specs.declared.SourceState.{SourceState}
+use Rattle.gmp_payload_type.specs.Types.{judged, typesAfter, gateOpen}
 use Rattle.gmp_source.specs.Source.{startRefusal, newSource, sourceRefusal, controlBytes, written, sourceState, sourceFrame}
 use Rattle.card_tally.specs.Tally.{added}
 use Rattle.card_tally.specs.Ports.{counted, sumTo, totalOf}
 use Rattle.card_sink.specs.Card.{talliesAfter}
-use Rattle.gmp_sink.specs.Sink.{newSink, sinkRefusal, handed, standingAfter, stateAfter, sinkAnswer, sinkState, sinkHanded, sinkOut}
+use Rattle.gmp_sink.specs.Sink.{newSink, sinkRefusal, handed, standingAfter, stateAfter, sinkAnswer, sinkState, sinkHanded, sinkOut, released}
 use Rattle.claim_recovery.specs.Runs.{Nth, SourceCall, SinkCall, SourceStep, SinkStep, sourceSteps, sinkSteps, sinkEnd, countOf, answerOf}
 use Rattle.claim_recovery.specs.Tallied.{talliesEnd}
 use Rattle.claim_recovery.specs.Demand.{SourceRun, Reads, Unharmed, AtMostWrong, equalFrame, NoFalseCount}
 use Rattle.claim_worked.specs.Less.{HoldsAfter, DeliversAfter, NoLess}
 use Rattle.claim_worked.specs.Run.{small, source, calls, send, room, frame1, frame2, hear, fromFirst, lost, fromAny, noisy, WorkedRun}
 use Rattle.claim_worked.proofs.Build.{all-nth, reads-by}
+use Rattle.claim_worked.proofs.Two.{not-after-two}
 
 run : SourceRun small source calls
-unfolding sourceSteps sinkSteps sinkEnd sourceRefusal sourceState sourceFrame newSource startRefusal written controlBytes announced frame row tabulate placed places remainder divide reduce bits outside sinkRefusal sinkAnswer sinkState sinkHanded sinkOut handed standingAfter stateAfter controlOf foundBy reading inWindow usable tracked candidate paired equalIndicators passes readAs clientBytes chosen payload columns word differing xor tableOf
+unfolding sourceSteps sinkSteps sinkEnd sourceRefusal sourceState sourceFrame newSource startRefusal written controlBytes announced frame row tabulate placed places remainder divide reduce bits outside sinkRefusal sinkAnswer sinkState sinkHanded sinkOut released gateOpen typesAfter judged handed standingAfter stateAfter controlOf foundBy reading inWindow usable tracked candidate paired equalIndicators passes readAs clientBytes chosen payload columns word differing xor tableOf
 run =
     record {
       made-with = small;
@@ -50,7 +52,7 @@ run =
     }
 
 pub worked-run : WorkedRun
-unfolding sourceSteps sinkSteps sinkEnd sourceRefusal sourceState sourceFrame newSource startRefusal written controlBytes announced frame row tabulate placed places remainder divide reduce bits outside sinkRefusal sinkAnswer sinkState sinkHanded sinkOut handed standingAfter stateAfter controlOf foundBy reading inWindow usable tracked candidate paired equalIndicators passes readAs clientBytes chosen payload columns word differing xor tableOf talliesEnd talliesAfter counted added sumTo totalOf
+unfolding sourceSteps sinkSteps sinkEnd sourceRefusal sourceState sourceFrame newSource startRefusal written controlBytes announced frame row tabulate placed places remainder divide reduce bits outside sinkRefusal sinkAnswer sinkState sinkHanded sinkOut released gateOpen typesAfter judged handed standingAfter stateAfter controlOf foundBy reading inWindow usable tracked candidate paired equalIndicators passes readAs clientBytes chosen payload columns word differing xor tableOf talliesEnd talliesAfter counted added sumTo totalOf
 worked-run =
     record {
       source-run = run;
@@ -77,11 +79,11 @@ abbrev one : List SinkCall
 one = hear small frame1 tt room ∷ []
 
 reads-one : Reads small (sourceSteps source calls) Unharmed 1 1 newSink one
-unfolding sourceSteps sinkSteps sinkEnd sourceRefusal sourceState sourceFrame newSource startRefusal written controlBytes announced frame row tabulate placed places remainder divide reduce bits outside sinkRefusal sinkAnswer sinkState sinkHanded sinkOut handed standingAfter stateAfter controlOf foundBy reading inWindow usable tracked candidate paired equalIndicators passes readAs clientBytes chosen payload columns word differing xor tableOf
+unfolding sourceSteps sinkSteps sinkEnd sourceRefusal sourceState sourceFrame newSource startRefusal written controlBytes announced frame row tabulate placed places remainder divide reduce bits outside sinkRefusal sinkAnswer sinkState sinkHanded sinkOut released gateOpen typesAfter judged handed standingAfter stateAfter controlOf foundBy reading inWindow usable tracked candidate paired equalIndicators passes readAs clientBytes chosen payload columns word differing xor tableOf
 reads-one = reads-by small (sourceSteps source calls) Unharmed 1 1 newSink one (lit≤ tt) (refl, tt) (refl, tt) refl
 
 waits : (n : ℕ) → sinkEnd newSink one .count ≡ Known n → ⊥
-unfolding sourceSteps sinkSteps sinkEnd sourceRefusal sourceState sourceFrame newSource startRefusal written controlBytes announced frame row tabulate placed places remainder divide reduce bits outside sinkRefusal sinkAnswer sinkState sinkHanded sinkOut handed standingAfter stateAfter controlOf foundBy reading inWindow usable tracked candidate paired equalIndicators passes readAs clientBytes chosen payload columns word differing xor tableOf
+unfolding sourceSteps sinkSteps sinkEnd sourceRefusal sourceState sourceFrame newSource startRefusal written controlBytes announced frame row tabulate placed places remainder divide reduce bits outside sinkRefusal sinkAnswer sinkState sinkHanded sinkOut released gateOpen typesAfter judged handed standingAfter stateAfter controlOf foundBy reading inWindow usable tracked candidate paired equalIndicators passes readAs clientBytes chosen payload columns word differing xor tableOf
 waits n e = let z : _≡_ {A = ℕ} 0 1 = cc in omega arith
 
 not-after-one : HoldsAfter 0 → ⊥
@@ -92,11 +94,11 @@ abbrev two : List SinkCall
 two = hear small frame1 tt room ∷ hear small frame2 tt room ∷ []
 
 reads-two : Reads small (sourceSteps source calls) Unharmed 1 2 newSink two
-unfolding sourceSteps sinkSteps sinkEnd sourceRefusal sourceState sourceFrame newSource startRefusal written controlBytes announced frame row tabulate placed places remainder divide reduce bits outside sinkRefusal sinkAnswer sinkState sinkHanded sinkOut handed standingAfter stateAfter controlOf foundBy reading inWindow usable tracked candidate paired equalIndicators passes readAs clientBytes chosen payload columns word differing xor tableOf
+unfolding sourceSteps sinkSteps sinkEnd sourceRefusal sourceState sourceFrame newSource startRefusal written controlBytes announced frame row tabulate placed places remainder divide reduce bits outside sinkRefusal sinkAnswer sinkState sinkHanded sinkOut released gateOpen typesAfter judged handed standingAfter stateAfter controlOf foundBy reading inWindow usable tracked candidate paired equalIndicators passes readAs clientBytes chosen payload columns word differing xor tableOf
 reads-two = reads-by small (sourceSteps source calls) Unharmed 1 2 newSink two (lit≤ tt) (refl, (refl, tt)) (refl, (refl, tt)) refl
 
 pairs : (y : SinkStep) → Nth (sinkSteps newSink two) 2 y → answerOf y ≡ accepted (finding PAIRED (Known 6))
-unfolding sourceSteps sinkSteps sinkEnd sourceRefusal sourceState sourceFrame newSource startRefusal written controlBytes announced frame row tabulate placed places remainder divide reduce bits outside sinkRefusal sinkAnswer sinkState sinkHanded sinkOut handed standingAfter stateAfter controlOf foundBy reading inWindow usable tracked candidate paired equalIndicators passes readAs clientBytes chosen payload columns word differing xor tableOf
+unfolding sourceSteps sinkSteps sinkEnd sourceRefusal sourceState sourceFrame newSource startRefusal written controlBytes announced frame row tabulate placed places remainder divide reduce bits outside sinkRefusal sinkAnswer sinkState sinkHanded sinkOut released gateOpen typesAfter judged handed standingAfter stateAfter controlOf foundBy reading inWindow usable tracked candidate paired equalIndicators passes readAs clientBytes chosen payload columns word differing xor tableOf
 pairs y e = ap answerOf (sym e) ∙ refl
 
 -- the names begin with different letters
@@ -132,7 +134,7 @@ deceived true = hear (with-flag true) (harmed 0xC0) tt room ∷ []
 deceived false = hear (with-flag false) (harmed 0xD0) tt room ∷ []
 
 quiet-run : (mending : Bool) → SourceRun (with-flag mending) quiet (silence mending)
-unfolding sourceSteps sinkSteps sinkEnd sourceRefusal sourceState sourceFrame newSource startRefusal written controlBytes announced frame row tabulate placed places remainder divide reduce bits outside sinkRefusal sinkAnswer sinkState sinkHanded sinkOut handed standingAfter stateAfter controlOf foundBy reading inWindow usable tracked candidate paired equalIndicators passes readAs mended wrongBit firstWith oneBit syndrome clientBytes chosen payload columns word differing xor tableOf
+unfolding sourceSteps sinkSteps sinkEnd sourceRefusal sourceState sourceFrame newSource startRefusal written controlBytes announced frame row tabulate placed places remainder divide reduce bits outside sinkRefusal sinkAnswer sinkState sinkHanded sinkOut released gateOpen typesAfter judged handed standingAfter stateAfter controlOf foundBy reading inWindow usable tracked candidate paired equalIndicators passes readAs mended wrongBit firstWith oneBit syndrome clientBytes chosen payload columns word differing xor tableOf
 quiet-run mending =
     record {
       made-with = with-flag mending;
@@ -144,19 +146,19 @@ quiet-run mending =
 
 reads-harmed : (mending : Bool)
     → Reads (with-flag mending) (sourceSteps quiet (silence mending)) (AtMostWrong (budget mending + 1) (with-flag mending)) 1 1 newSink (deceived mending)
-unfolding sourceSteps sinkSteps sinkEnd sourceRefusal sourceState sourceFrame newSource startRefusal written controlBytes announced frame row tabulate placed places remainder divide reduce bits outside sinkRefusal sinkAnswer sinkState sinkHanded sinkOut handed standingAfter stateAfter controlOf foundBy reading inWindow usable tracked candidate paired equalIndicators passes readAs mended wrongBit firstWith oneBit syndrome clientBytes chosen payload columns word differing xor tableOf
+unfolding sourceSteps sinkSteps sinkEnd sourceRefusal sourceState sourceFrame newSource startRefusal written controlBytes announced frame row tabulate placed places remainder divide reduce bits outside sinkRefusal sinkAnswer sinkState sinkHanded sinkOut released gateOpen typesAfter judged handed standingAfter stateAfter controlOf foundBy reading inWindow usable tracked candidate paired equalIndicators passes readAs mended wrongBit firstWith oneBit syndrome clientBytes chosen payload columns word differing xor tableOf
 reads-harmed true =
     reads-by (with-flag true) (sourceSteps quiet (silence true)) (AtMostWrong (budget true + 1) (with-flag true)) 1 1 newSink (deceived true) (lit≤ tt) (refl, tt) (lit≤ tt, tt) refl
 reads-harmed false =
     reads-by (with-flag false) (sourceSteps quiet (silence false)) (AtMostWrong (budget false + 1) (with-flag false)) 1 1 newSink (deceived false) (lit≤ tt) (refl, tt) (lit≤ tt, tt) refl
 
 false-count : (mending : Bool) → sinkEnd newSink (deceived mending) .count ≡ Known 4
-unfolding sourceSteps sinkSteps sinkEnd sourceRefusal sourceState sourceFrame newSource startRefusal written controlBytes announced frame row tabulate placed places remainder divide reduce bits outside sinkRefusal sinkAnswer sinkState sinkHanded sinkOut handed standingAfter stateAfter controlOf foundBy reading inWindow usable tracked candidate paired equalIndicators passes readAs mended wrongBit firstWith oneBit syndrome clientBytes chosen payload columns word differing xor tableOf
+unfolding sourceSteps sinkSteps sinkEnd sourceRefusal sourceState sourceFrame newSource startRefusal written controlBytes announced frame row tabulate placed places remainder divide reduce bits outside sinkRefusal sinkAnswer sinkState sinkHanded sinkOut released gateOpen typesAfter judged handed standingAfter stateAfter controlOf foundBy reading inWindow usable tracked candidate paired equalIndicators passes readAs mended wrongBit firstWith oneBit syndrome clientBytes chosen payload columns word differing xor tableOf
 false-count true = refl
 false-count false = refl
 
 count-zero : (mending : Bool) (x : SourceStep) → Nth (sourceSteps quiet (silence mending)) 1 x → countOf x ≡ 0
-unfolding sourceSteps sinkSteps sinkEnd sourceRefusal sourceState sourceFrame newSource startRefusal written controlBytes announced frame row tabulate placed places remainder divide reduce bits outside sinkRefusal sinkAnswer sinkState sinkHanded sinkOut handed standingAfter stateAfter controlOf foundBy reading inWindow usable tracked candidate paired equalIndicators passes readAs mended wrongBit firstWith oneBit syndrome clientBytes chosen payload columns word differing xor tableOf
+unfolding sourceSteps sinkSteps sinkEnd sourceRefusal sourceState sourceFrame newSource startRefusal written controlBytes announced frame row tabulate placed places remainder divide reduce bits outside sinkRefusal sinkAnswer sinkState sinkHanded sinkOut released gateOpen typesAfter judged handed standingAfter stateAfter controlOf foundBy reading inWindow usable tracked candidate paired equalIndicators passes readAs mended wrongBit firstWith oneBit syndrome clientBytes chosen payload columns word differing xor tableOf
 count-zero mending x e = ap countOf (sym e)
 
 not-with-more : (mending : Bool) → NoFalseCount mending (budget mending + 1) → ⊥
@@ -174,4 +176,4 @@ not-with-more mending h = ⊎-elim none some (h (with-flag mending) refl quiet (
         omega arith
 
 pub no-less : NoLess
-no-less = record { one-frame = not-after-one; second-frame = not-from-second; one-bit-more = not-with-more }
+no-less = record { one-frame = not-after-one; second-frame = not-from-second; two-types = not-after-two; one-bit-more = not-with-more }

@@ -13,6 +13,7 @@ use Rattle.gmp_settings.specs.Worked.{customer, oneBitWrong}
 use Rattle.gmp_standing.specs.declared.Count.the-variants.{Known}
 use Rattle.gmp_standing.specs.Standing.{READ, TRACKED, PAIRED, BADCHECK, WAITING}
 use Rattle.gmp_control.specs.declared.Remembered.the-variants.{Word}
+use Rattle.gmp_payload_type.specs.Types.{newTypes}
 use Rattle.gmp_source.specs.declared.SourceState.{SourceState}
 use Rattle.gmp_source.specs.Source.{sourceRefusal, nextState}
 use Rattle.gmp_sink.specs.declared.SinkState.{SinkState}
@@ -76,7 +77,7 @@ theirNew =
 
 -- A sink with a false count and a false word from frame 2 to 6.
 abbrev pub theirLost : SinkState
-theirLost = record { count = Known 7; word = Word 21845 }
+theirLost = record { count = Known 7; word = Word 21845; types = newTypes }
 
 abbrev pub theirAny : List SinkCall
 theirAny =

@@ -3,5 +3,6 @@ pub mod Starred
 pub mod Run
 pub mod Customer
 pub mod Mended
+pub mod Typed
 pub mod Readable
 pub mod Less

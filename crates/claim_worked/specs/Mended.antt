@@ -12,6 +12,7 @@ use Rattle.gmp_standing.specs.declared.Count.the-variants.{Known}
 use Rattle.gmp_standing.specs.Standing.{READ, TRACKED, PAIRED, BADCHECK, WAITING}
 use Rattle.gmp_control.specs.declared.Remembered.the-variants.{Word, Nothing}
 use Rattle.gmp_control.specs.Word.{wordBy}
+use Rattle.gmp_payload_type.specs.Types.{newTypes}
 use Rattle.gmp_sink.specs.declared.SinkState.{SinkState}
 use Rattle.gmp_sink.specs.Sink.{newSink}
 use Rattle.claim_recovery.specs.Runs.{Nth, SourceCall, SinkCall, SourceStep, SinkStep, sourceSteps, sinkSteps, sinkEnd, mendedOf}
@@ -25,7 +26,7 @@ abbrev pub mends : Settings
 mends = withMending small true
 
 abbrev pub sendings : List SourceCall
-sendings = map (flaggedCall true) calls
+sendings = map (flaggedCall (record { mending = true; type-check = false })) calls
 
 -- frame 2 with a wrong bit in JC1, frame 3 with one in JC2, frame 5 with one in JC3, and frame 4
 -- with two
@@ -55,7 +56,7 @@ hearings s =
 
 -- a sink in step with the source before frame 1
 abbrev pub inStep : SinkState
-inStep = record { count = Known 3; word = Nothing }
+inStep = record { count = Known 3; word = Nothing; types = newTypes }
 
 -- the first two of them
 abbrev pub firstTwo : List SinkCall

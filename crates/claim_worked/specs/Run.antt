@@ -15,6 +15,8 @@ use Rattle.refusals.specs.Table.{Answer, accepted}
 use Rattle.gmp_standing.specs.declared.Count.the-variants.{Known, Unknown}
 use Rattle.gmp_standing.specs.Standing.{Finding, finding, READ, TRACKED, PAIRED, BADCHECK, WAITING}
 use Rattle.gmp_control.specs.declared.Remembered.the-variants.{Word}
+use Rattle.gmp_payload_type.specs.declared.Expected.{Expected}
+use Rattle.gmp_payload_type.specs.Types.{newTypes}
 use Rattle.gmp_source.specs.declared.SourceState.{SourceState}
 use Rattle.gmp_port.specs.Port.{ports}
 use Rattle.card_tally.specs.declared.Tally.{Tally}
@@ -89,9 +91,13 @@ frame5 = 0 ∷ 0 ∷ 0 ∷ 0 ∷ 0 ∷ 12 ∷ 51 ∷ 0 ∷ 0 ∷ 92 ∷ 0 ∷ 52
 abbrev pub frame6 : List ℕ
 frame6 = 0 ∷ 0 ∷ 0 ∷ 0 ∷ 0 ∷ 31 ∷ 61 ∷ 0 ∷ 0 ∷ 155 ∷ 0 ∷ 62 ∷ 0 ∷ 0 ∷ 0 ∷ 63 ∷ []
 
+-- the payload type is not checked, and what the sink is told of a frame is not looked at
+abbrev pub untold : Expected
+untold = record { multiframe = 0; «payload_type» = 0 }
+
 -- a call of a sink on port p, and on port 1
 abbrev pub hearOn : ℕ → Settings → (f : List ℕ) → T (areBytes f) → List ℕ → SinkCall
-hearOn p s f h out = record { settings = s; frame = f; bytes = bytes f h; out = out; port = p }
+hearOn p s f h out = record { settings = s; expected = untold; frame = f; bytes = bytes f h; out = out; port = p }
 
 abbrev pub hear : Settings → (f : List ℕ) → T (areBytes f) → List ℕ → SinkCall
 hear = hearOn 1
@@ -114,7 +120,7 @@ fromFirst =
 
 -- A sink with a false count and a false word from frame 2 to 6, on port 5.
 abbrev pub lost : SinkState
-lost = record { count = Known 7; word = Word 21845 }
+lost = record { count = Known 7; word = Word 21845; types = newTypes }
 
 abbrev pub fromAny : List SinkCall
 fromAny =

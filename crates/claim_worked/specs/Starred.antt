@@ -12,6 +12,7 @@ use Rattle.gmp_control.specs.declared.Remembered.the-variants.{Nothing}
 use Rattle.gmp_control.specs.Worked.{wide, narrow}
 use Rattle.gmp_stuffing.specs.Places.{carries}
 use Rattle.gmp_frame.specs.declared.Control.{Control}
+use Rattle.gmp_payload_type.specs.Types.{newTypes}
 use Rattle.gmp_rate.specs.Rate.{firstRemainder}
 use Rattle.gmp_rate.specs.Sum.{countsFrom}
 use Rattle.gmp_rate.specs.Worked.{gigabit}
@@ -51,7 +52,7 @@ carrying C S (suc n) = carrying C S n ++ cond (carries C S (suc n)) (suc n ∷ [
 
 -- a sink that knows a false count
 abbrev pub misled : SinkState
-misled = record { count = Known 2932; word = Nothing }
+misled = record { count = Known 2932; word = Nothing; types = newTypes }
 
 abbrev pub starred : List Case
 starred =

@@ -3,6 +3,7 @@ ghost use Rattle.claim_worked.specs.Starred.{AllHold, starred};
 ghost use Rattle.claim_worked.specs.Run.{WorkedRun};
 ghost use Rattle.claim_worked.specs.Customer.{CustomerRun};
 ghost use Rattle.claim_worked.specs.Mended.{MendedRun};
+ghost use Rattle.claim_worked.specs.Typed.{TypedRun};
 ghost use Rattle.claim_worked.specs.Readable.{Readable};
 ghost use Rattle.claim_worked.specs.Less.{NoLess};
 
@@ -27,13 +28,20 @@ pub fn mended_run()
     ensures { λ _. ⌜ MendedRun ⌝ }
 {}
 
+// Ports with the payload type checked: the right cord, a swapped one, one swapped in service, and a
+// swapped one with the type check off.
+pub fn typed_run()
+    ensures { λ _. ⌜ TypedRun ⌝ }
+{}
+
 // Every source run can be read by any sink, from any frame up to any later one.
 pub fn readable_runs()
     ensures { λ _. ⌜ Readable ⌝ }
 {}
 
-// One frame does not find the count, the second is not yet delivered, and four wrong bits can make
-// it false, as three can with mending on.
+// One frame does not find the count, the second is not yet delivered, two frames numbered 0 do not
+// have the type accepted, and four wrong bits can make the count false, as three can with mending
+// on.
 pub fn no_less()
     ensures { λ _. ⌜ NoLess ⌝ }
 {}

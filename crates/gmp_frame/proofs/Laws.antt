@@ -9,10 +9,10 @@ use lib.Seq.{take-length}
 use borrow.Author.Tests.{eq-eqb, le-leb}
 use Rattle.gmp_settings.specs.Grid.{payloadBytes, frameBytes}
 use Rattle.gmp_frame.specs.declared.Control.{Control}
-use Rattle.gmp_frame.specs.Frame.{frame, columns, payload, clientBytes, controlOf, OthersSame, frameWritten, clientTaken}
+use Rattle.gmp_frame.specs.Frame.{frame, columns, payload, clientBytes, controlOf, psiOf, OthersSame, frameWritten, clientTaken}
 use Rattle.gmp_stuffing.specs.Places.{chosen}
 use Rattle.gmp_stuffing.proofs.Steps.{count-all, length-first, chosen-placed}
-use Rattle.gmp_frame.proofs.Rows.{length-row, length-payload, payload-frame, second, row0, row1, row2}
+use Rattle.gmp_frame.proofs.Rows.{length-row, length-payload, payload-frame, first, second, row0, row1, row2, row3}
 
 -- "4K + 8 bytes in all"
 pub length-frame : (k : ℕ) (client : List ℕ) (control : Control) (psi : ℕ) → length (frame k client control psi) ≡ frameBytes k
@@ -28,6 +28,10 @@ control-written k client control psi =
       second (row1 k client control psi) (k + 3) (omega arith),
       second (row2 k client control psi) (2 * k + 5) (omega arith),
     )
+
+-- and so is the PSI byte
+pub psi-written : (k : ℕ) (client : List ℕ) (control : Control) (psi : ℕ) → psiOf k (frame k client control psi) ≡ psi
+psi-written k client control psi = first (row3 k client control psi) (3 * k + 6) (omega arith)
 
 -- "what was written is what is taken out"
 pub client-taken : (k : ℕ) (client : List ℕ) (control : Control) (psi : ℕ) → length client ≤ payloadBytes k
@@ -62,6 +66,10 @@ others-client k C bytes bytes′ e h =
     let c = same-part (2 * (k + 2) + 2) k bytes bytes′ e (λ i low high. h i (λ z. omega arith) (λ z. omega arith) (λ z. omega arith)) in
     let d = same-part (3 * (k + 2) + 2) k bytes bytes′ e (λ i low high. h i (λ z. omega arith) (λ z. omega arith) (λ z. omega arith)) in
     ap (chosen C (payloadBytes k) 0) (ap₂ _++_ a (ap₂ _++_ b (ap₂ _++_ c d)))
+
+-- and so does the PSI byte not
+pub others-psi : (k : ℕ) (bytes bytes′ : List ℕ) → OthersSame k bytes bytes′ → psiOf k bytes ≡ psiOf k bytes′
+others-psi k bytes bytes′ h = h (3 * k + 6) (λ z. omega arith) (λ z. omega arith) (λ z. omega arith)
 
 -- as many client bytes are taken out of a frame as the count says
 pub length-client : (k C : ℕ) (bytes : List ℕ) → C ≤ payloadBytes k → length bytes ≡ frameBytes k → length (clientBytes k C bytes) ≡ C

@@ -24,7 +24,11 @@ pub record Stands (k : ℕ) (client : List ℕ) (r a b : ℕ) (bytes : List ℕ)
   start : length before ≡ r * (k + 2)
 
 module _ {k : ℕ} {client : List ℕ} {r a b : ℕ} {bytes : List ℕ} (s : Stands k client r a b bytes) where
-  -- its second byte, and its payload bytes
+  -- its first byte, its second byte, and its payload bytes
+  pub first : (n : ℕ) → n ≡ r * (k + 2) → getD bytes n 0 ≡ a
+  unfolding row
+  first n e = let z : n ≡ length (s .before) + 0 = omega (arith, s .start) in rw (z, s .split, getD-append-add)
+
   pub second : (n : ℕ) → n ≡ r * (k + 2) + 1 → getD bytes n 0 ≡ b
   unfolding row
   second n e = rw (e, s .split, ← s .start, getD-append-add)
@@ -65,7 +69,7 @@ module _ (k : ℕ) (client : List ℕ) (control : Control) (psi : ℕ) where
   unfolding frame
   row2 = record { before = r0 ++ r1; after = r3; split = sym (append-assoc r0 r1 (r2 ++ r3)); start = simp (length-append, length-row) (omega arith) }
 
-  row3 : Stands k client 3 psi 0 (frame k client control psi)
+  pub row3 : Stands k client 3 psi 0 (frame k client control psi)
   unfolding frame
   row3 = record { before = r0 ++ (r1 ++ r2); after = []; split = simp (append-assoc, append-nil); start = simp (length-append, length-row) (omega arith) }
 

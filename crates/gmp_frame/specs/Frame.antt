@@ -38,6 +38,10 @@ clientBytes k C bytes = chosen C (payloadBytes k) 0 (payload k bytes)
 unfoldable pub controlOf : ℕ → List ℕ → Control
 controlOf k bytes = record { jc1 = getD bytes 1 0; jc2 = getD bytes (k + 3) 0; jc3 = getD bytes (2 * k + 5) 0 }
 
+-- the PSI byte of a frame: "The first byte of row 4" (zero where the frame is too short to have it)
+abbrev pub psiOf : ℕ → List ℕ → ℕ
+psiOf k bytes = getD bytes (3 * k + 6) 0
+
 -- two frames have the same bytes, JC1 to JC3 apart
 abbrev pub OthersSame : ℕ → List ℕ → List ℕ → Type 0
 OthersSame k one two = (i : ℕ) → (i ≡ 1 → ⊥) → (i ≡ k + 3 → ⊥) → (i ≡ 2 * k + 5 → ⊥) → getD one i 0 ≡ getD two i 0
@@ -56,8 +60,9 @@ clientTaken k C bytes out =
     cond (eqb (length bytes) (frameBytes k) && (leb C (payloadBytes k) && leb C (length out))) (clientBytes k C bytes ++ drop C out) out
 
 -- What was written is what is taken out: the client bytes, at the places of their number, for every
--- grid and every load that fits it, and the control bytes.
+-- grid and every load that fits it, the control bytes and the PSI byte.
 pub record FrameGivesBack : Type 0 where
   pub client : (k : ℕ) (client : List ℕ) (control : Control) (psi : ℕ) → length client ≤ payloadBytes k
       → clientBytes k (length client) (frame k client control psi) ≡ client
   pub control : (k : ℕ) (client : List ℕ) (control : Control) (psi : ℕ) → controlOf k (frame k client control psi) ≡ control
+  pub psi : (k : ℕ) (client : List ℕ) (control : Control) (psi : ℕ) → psiOf k (frame k client control psi) ≡ psi

@@ -3,7 +3,7 @@
 // the crate gmp_frame_read.
 ghost use mathlib.Core.Path.{_≡_};
 ghost use lib.ListN.{getD};
-ghost use Rattle.gmp_frame.specs.Frame.{controlOf, FrameGivesBack};
+ghost use Rattle.gmp_frame.specs.Frame.{controlOf, psiOf, FrameGivesBack};
 
 // The three control bytes of a frame.
 pub struct Control {
@@ -26,6 +26,14 @@ pub fn control_of(frame_in: &[u8], k: u32) -> Control
         jc2: b,
         jc3: c,
     }
+}
+
+// The PSI byte of a frame on a grid of k columns; zero where a short frame does not have it.
+pub fn psi_of(frame_in: &[u8], k: u32) -> u8
+    ensures { λ r. ⌜ r ≡ psiOf k (now («frame_in» .entry)) ⌝ }
+{
+    let columns = k as usize;
+    byte_at(frame_in, 3 * columns + 6)
 }
 
 // What was written to a frame is what is taken out of it, for every grid, count and load.

@@ -1,5 +1,5 @@
 -- The settings: a grid K and a window lo to hi (01, "Settings and the frame"), the inversion
--- patterns (02, P11), and mending (02, P1). Assumes nothing.
+-- patterns (02, P11), mending (02, P1), and the type check (02, P4). Assumes nothing.
 use mathlib.Core.Bool.{Bool, false, _||_}
 use mathlib.Core.List.{List, [], _∷_}
 use Prim.Native.Nat.{ℕ, _<_, _≤_}
@@ -11,17 +11,21 @@ use Rattle.gmp_settings.specs.declared.Patterns.the-variants.{Standard, 
 use Rattle.gmp_settings.specs.Grid.{payloadBytes}
 
 -- "The settings are a grid K .. and a window lo to hi": every record of settings is made here, with
--- 01's patterns and without mending
+-- 01's patterns, without mending and without the type check
 abbrev pub newSettings : ℕ → ℕ → ℕ → Settings
-newSettings k lo hi = record { k = k; lo = lo; hi = hi; patterns = Standard; mending = false }
+newSettings k lo hi = record { k = k; lo = lo; hi = hi; patterns = Standard; mending = false; «type_check» = false }
 
 -- "The settings may carry four patterns .. which take the place of document 01's" (02, P11)
 abbrev pub withPatterns : Settings → FourPatterns → Settings
-withPatterns s four = record { k = s .k; lo = s .lo; hi = s .hi; patterns = Given four; mending = s .mending }
+withPatterns s four = record { k = s .k; lo = s .lo; hi = s .hi; patterns = Given four; mending = s .mending; «type_check» = s .«type_check» }
 
 -- "A new setting turns it on" (02, P1), or off
 abbrev pub withMending : Settings → Bool → Settings
-withMending s b = record { k = s .k; lo = s .lo; hi = s .hi; patterns = s .patterns; mending = b }
+withMending s b = record { k = s .k; lo = s .lo; hi = s .hi; patterns = s .patterns; mending = b; «type_check» = s .«type_check» }
+
+-- "A setting turns the check on" (02, P4), or off
+abbrev pub withTypeCheck : Settings → Bool → Settings
+withTypeCheck s b = record { k = s .k; lo = s .lo; hi = s .hi; patterns = s .patterns; mending = s .mending; «type_check» = b }
 
 -- the most payload columns in a row: those of OPU0
 abbrev pub widestGrid : ℕ

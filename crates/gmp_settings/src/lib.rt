@@ -1,22 +1,24 @@
-// The settings of a card: the grid of a frame, the window of counts, the inversion patterns, and
-// whether a sink mends one wrong control bit.
+// The settings of a card: the grid of a frame, the window of counts, the inversion patterns,
+// whether a sink mends one wrong control bit, and whether it checks the payload type.
 use gmp_refusal::Refusal;
 use gmp_refusal::Verdict;
 ghost use mathlib.Core.Path.{_≡_};
 ghost use Rattle.refusals.specs.Table.{lowest};
 ghost use Rattle.gmp_refusal.specs.Refusal.{verdictNumber};
 ghost use Rattle.gmp_settings.specs.Grid.{frameBytes};
-ghost use Rattle.gmp_settings.specs.Settings.{newSettings, withPatterns, withMending, opu0, badGrid, badWindow, settingsReasons, outside};
+ghost use Rattle.gmp_settings.specs.Settings.{newSettings, withPatterns, withMending, withTypeCheck, opu0, badGrid, badWindow, settingsReasons, outside};
 ghost use Rattle.gmp_settings.specs.Patterns.{breaksRule, exceeds, badPatterns};
 
-// The grid K, payload columns in a row; the window of counts; the inversion patterns; and whether
-// a sink mends one wrong control bit, which sources and keepers do not look at.
+// The grid K, payload columns in a row; the window of counts; the inversion patterns; and, at which
+// sources and keepers do not look, whether a sink mends one wrong control bit and whether it checks
+// the payload type.
 pub struct Settings {
     pub k: u32,
     pub lo: u32,
     pub hi: u32,
     pub patterns: Patterns,
     pub mending: bool,
+    pub type_check: bool,
 }
 
 // The standard's patterns, or four that are given.
@@ -33,8 +35,8 @@ pub struct FourPatterns {
     pub minus2: u32,
 }
 
-// The settings of this grid and window, with the standard's patterns and without mending. Any
-// numbers go: a call judges them.
+// The settings of this grid and window, with the standard's patterns, without mending and without
+// the type check. Any numbers go: a call judges them.
 pub fn new_settings(k: u32, lo: u32, hi: u32) -> Settings
     ensures { λ r. ⌜ r ≡ newSettings k lo hi ⌝ }
 {
@@ -44,6 +46,7 @@ pub fn new_settings(k: u32, lo: u32, hi: u32) -> Settings
         hi: hi,
         patterns: Patterns::Standard,
         mending: false,
+        type_check: false,
     }
 }
 
@@ -57,6 +60,7 @@ pub fn with_patterns(settings: Settings, four: FourPatterns) -> Settings
         hi: settings.hi,
         patterns: Patterns::Given(four),
         mending: settings.mending,
+        type_check: settings.type_check,
     }
 }
 
@@ -66,6 +70,15 @@ pub fn with_mending(settings: Settings, mending: bool) -> Settings
 {
     let mut after = settings;
     after.mending = mending;
+    after
+}
+
+// The same settings with the type check on or off.
+pub fn with_type_check(settings: Settings, type_check: bool) -> Settings
+    ensures { λ r. ⌜ r ≡ withTypeCheck settings «type_check» ⌝ }
+{
+    let mut after = settings;
+    after.type_check = type_check;
     after
 }
 

@@ -1,5 +1,5 @@
 -- What an accepted call of the sink knows, and the cases of its definitions. Assumes nothing.
-use mathlib.Core.Path.{_≡_, refl, sym, ap, ap₂, _∙_, subst⁻¹}
+use mathlib.Core.Path.{_≡_, refl, sym, ap, ap₂, _∙_, subst, subst⁻¹}
 use mathlib.Core.Bool.{Bool, true, false, true≢false, not, cond}
 use mathlib.Core.List.{List, [], _++_}
 use Prim.Native.Nat.{ℕ, _≤_}
@@ -35,12 +35,16 @@ use Rattle.gmp_control.specs.Follow.{usable, found}
 use Rattle.gmp_control.specs.Pattern.{tableOf}
 use Rattle.gmp_control.proofs.Named.{never-bad-check}
 use Rattle.gmp_frame.specs.declared.Control.{Control}
-use Rattle.gmp_frame.specs.Frame.{controlOf, clientBytes, clientTaken}
+use Rattle.gmp_frame.specs.Frame.{controlOf, psiOf, clientBytes, clientTaken}
 use Rattle.gmp_frame.proofs.Laws.{length-client, taken-fits}
+use Rattle.gmp_payload_type.specs.declared.Types.{Types}
+use Rattle.gmp_payload_type.specs.declared.Expected.{Expected}
+use Rattle.gmp_payload_type.specs.Types.{typesAfter, gateOpen}
+use Rattle.gmp_payload_type.proofs.Laws.{open-off, types-off}
 use Rattle.gmp_sink.specs.declared.SinkState.{SinkState}
 use Rattle.gmp_sink.specs.declared.SinkAnswer.the-variants.{Done, Refused}
 use Rattle.gmp_sink.specs.declared.SinkResult.{SinkResult}
-use Rattle.gmp_sink.specs.Sink.{newSink, sinkReasons, sinkRefusal, handed, readingOf, standingBy, standingAfter, wordAfter, stateAfter, isMended, mendedIn, answerMeaning, sinkAnswer, sinkState, sinkMended, sinkHanded, sinkOut, SinkPromise, AnyPort, Accepted, AcceptedPromise, HandsOut, OffAsBefore}
+use Rattle.gmp_sink.specs.Sink.{newSink, sinkReasons, sinkRefusal, handed, released, readingOf, standingBy, standingAfter, wordAfter, stateAfter, withTypes, frameAfter, isMended, mendedIn, answerMeaning, sinkAnswer, sinkState, sinkMended, sinkHanded, sinkOut, SinkPromise, UncheckedAsBefore, AnyPort, Accepted, AcceptedPromise, HandsOut, OffAsBefore}
 
 -- a call that no number turns back, and its port
 accepted-all : (s : Settings) (f o p : ℕ) → sinkRefusal s f o p ≡ 0 → Accepted s f o × (badPort p ≡ false)
@@ -80,48 +84,92 @@ module _ (s : Settings) (z : SinkState) (frame : List ℕ) where
   unfolding handed
   handed-none e = rw e
 
+  -- an accepted call, and a refused one: what it answers and mends
   module _ (out : List ℕ) (p : ℕ) where
-    -- an accepted call
     pub answer-accepted : sinkRefusal s (length frame) (length out) p ≡ 0 → sinkAnswer s z frame out p ≡ accepted (standingAfter s z (controlOf (s .k) frame))
     unfolding sinkAnswer
     answer-accepted e = simp (eq-eqb _ _ e)
-
-    pub state-accepted : sinkRefusal s (length frame) (length out) p ≡ 0 → sinkState s z frame out p ≡ stateAfter s z (controlOf (s .k) frame)
-    unfolding sinkState
-    state-accepted e = simp (eq-eqb _ _ e)
-
-    pub handed-accepted : sinkRefusal s (length frame) (length out) p ≡ 0 → sinkHanded s z frame out p ≡ handed s z frame
-    unfolding sinkHanded
-    handed-accepted e = simp (eq-eqb _ _ e)
-
-    pub out-accepted : sinkRefusal s (length frame) (length out) p ≡ 0 → sinkOut s z frame out p ≡ handed s z frame ++ drop (length (handed s z frame)) out
-    unfolding sinkOut
-    out-accepted e = ap (λ (l : List ℕ). l ++ drop (length l) out) (handed-accepted e)
 
     pub mended-accepted : sinkRefusal s (length frame) (length out) p ≡ 0 → sinkMended s frame out p ≡ mendedIn s (controlOf (s .k) frame)
     unfolding sinkMended
     mended-accepted e = simp (eq-eqb _ _ e)
 
-    -- a refused one
     pub answer-refused : (sinkRefusal s (length frame) (length out) p ≡ 0 → ⊥) → sinkAnswer s z frame out p ≡ refused (sinkRefusal s (length frame) (length out) p)
     unfolding sinkAnswer
     answer-refused h = simp (ne-eqb _ _ h)
-
-    pub state-refused : (sinkRefusal s (length frame) (length out) p ≡ 0 → ⊥) → sinkState s z frame out p ≡ z
-    unfolding sinkState
-    state-refused h = simp (ne-eqb _ _ h)
 
     pub mended-refused : (sinkRefusal s (length frame) (length out) p ≡ 0 → ⊥) → sinkMended s frame out p ≡ false
     unfolding sinkMended
     mended-refused h = simp (ne-eqb _ _ h)
 
-    pub handed-refused : (sinkRefusal s (length frame) (length out) p ≡ 0 → ⊥) → sinkHanded s z frame out p ≡ []
-    unfolding sinkHanded
-    handed-refused h = simp (ne-eqb _ _ h)
+  module _ (w : Expected) where
+    -- the gate over them: open, or shut
+    pub released-open : gateOpen (s .«type_check») (z .types) w ≡ true → released s z w frame ≡ handed s z frame
+    unfolding released
+    released-open e = rw e
 
-    pub out-refused : (sinkRefusal s (length frame) (length out) p ≡ 0 → ⊥) → sinkOut s z frame out p ≡ out
-    unfolding sinkOut
-    out-refused h = ap (λ (l : List ℕ). l ++ drop (length l) out) (handed-refused h)
+    pub released-shut : gateOpen (s .«type_check») (z .types) w ≡ false → released s z w frame ≡ []
+    unfolding released
+    released-shut e = rw e
+
+    -- with the check off it is open, and the types stay
+    pub released-off : s .«type_check» ≡ false → released s z w frame ≡ handed s z frame
+    released-off off = released-open (ap (λ (b : Bool). gateOpen b (z .types) w) off ∙ open-off (z .types) w)
+
+    pub frame-off : s .«type_check» ≡ false → frameAfter s z w frame ≡ stateAfter s z (controlOf (s .k) frame)
+    unfolding stateAfter
+    frame-off off =
+        ap (withTypes (stateAfter s z (controlOf (s .k) frame)))
+        (ap (λ (b : Bool). typesAfter b (z .types) w (psiOf (s .k) frame)) off ∙ types-off (z .types) w (psiOf (s .k) frame))
+
+    -- an accepted call, and a refused one: the state and what is handed out
+    module _ (out : List ℕ) (p : ℕ) where
+      pub state-accepted : sinkRefusal s (length frame) (length out) p ≡ 0 → sinkState s z w frame out p ≡ frameAfter s z w frame
+      unfolding sinkState
+      state-accepted e = simp (eq-eqb _ _ e)
+
+      pub handed-accepted : sinkRefusal s (length frame) (length out) p ≡ 0 → sinkHanded s z w frame out p ≡ released s z w frame
+      unfolding sinkHanded
+      handed-accepted e = simp (eq-eqb _ _ e)
+
+      pub out-accepted : sinkRefusal s (length frame) (length out) p ≡ 0 → sinkOut s z w frame out p ≡ released s z w frame ++ drop (length (released s z w frame)) out
+      unfolding sinkOut
+      out-accepted e = ap (λ (l : List ℕ). l ++ drop (length l) out) (handed-accepted e)
+
+      pub state-refused : (sinkRefusal s (length frame) (length out) p ≡ 0 → ⊥) → sinkState s z w frame out p ≡ z
+      unfolding sinkState
+      state-refused h = simp (ne-eqb _ _ h)
+
+      pub handed-refused : (sinkRefusal s (length frame) (length out) p ≡ 0 → ⊥) → sinkHanded s z w frame out p ≡ []
+      unfolding sinkHanded
+      handed-refused h = simp (ne-eqb _ _ h)
+
+      pub out-refused : (sinkRefusal s (length frame) (length out) p ≡ 0 → ⊥) → sinkOut s z w frame out p ≡ out
+      unfolding sinkOut
+      out-refused h = ap (λ (l : List ℕ). l ++ drop (length l) out) (handed-refused h)
+
+      unchecked-state : s .«type_check» ≡ false
+          → sinkState s z w frame out p ≡ cond (eqb (sinkRefusal s (length frame) (length out) p) 0) (stateAfter s z (controlOf (s .k) frame)) z
+      unfolding sinkState
+      unchecked-state off = ap (λ (x : SinkState). cond (eqb (sinkRefusal s (length frame) (length out) p) 0) x z) (frame-off off)
+
+      unchecked-handed : s .«type_check» ≡ false
+          → sinkHanded s z w frame out p ≡ cond (eqb (sinkRefusal s (length frame) (length out) p) 0) (handed s z frame) []
+      unfolding sinkHanded
+      unchecked-handed off = ap (λ (l : List ℕ). cond (eqb (sinkRefusal s (length frame) (length out) p) 0) l []) (released-off off)
+
+      same-types : (b : Bool) → cond b (stateAfter s z (controlOf (s .k) frame)) z .types ≡ z .types
+      unfolding stateAfter
+      same-types true = refl
+      same-types false = refl
+
+pub unchecked-as-before : UncheckedAsBefore
+unchecked-as-before =
+    record {
+      state = λ s z w frame out p off. unchecked-state s z frame w out p off;
+      types = λ s z w frame out p off. ap (λ (x : SinkState). x .types) (unchecked-state s z frame w out p off) ∙ same-types s z frame w out p (eqb (sinkRefusal s (length frame) (length out) p) 0);
+      handed-bytes = λ s z w frame out p off. unchecked-handed s z frame w out p off;
+    }
 
 module _ (s : Settings) (z : SinkState) (c : Control) (r : Reading) (e : readingOf s c ≡ r) where
   -- control bytes lead where what they read as leads
@@ -157,26 +205,34 @@ hands-out s z frame out n after a known e =
       buffer = e ∙ taken-fits (s .k) n frame out (a .frame) fits room ∙ sym (rw (h, same));
     }
 
--- a state by its two parts
-pub state-of-parts : (count : Count) (word : Remembered) (x : SinkState) → count ≡ x .count → word ≡ x .word → record { count = count; word = word } ≡ x
-state-of-parts count word x e f = ap₂ (λ (c : Count) (w : Remembered). record { count = c; word = w }) e f
+-- and what that of `take_accepted` comes to, where b says whether the gate is open
+pub hands-released : (s : Settings) (z : SinkState) (w : Expected) (frame out : List ℕ) (b : Bool) (n : ℕ) (after : List ℕ)
+    → b ≡ gateOpen (s .«type_check») (z .types) w → HandsOut (cond b (handed s z frame) []) out n after → HandsOut (released s z w frame) out n after
+unfolding released
+hands-released s z w frame out b n after e h = subst (λ (c : Bool). HandsOut (cond c (handed s z frame) []) out n after) e h
+
+-- a state by its three parts
+pub state-of-parts : (count : Count) (word : Remembered) (types : Types) (x : SinkState) → count ≡ x .count → word ≡ x .word → types ≡ x .types
+    → record { count = count; word = word; types = types } ≡ x
+state-of-parts count word types x e f g =
+    ap₂ (λ (c : Count) (w : Remembered). record { count = c; word = w; types = types }) e f ∙ ap (withTypes x) g
 
 -- what a call that no number turns back promises is what the sink's call does
-pub promise-accepted : (s : Settings) (z : SinkState) (frame out : List ℕ) (p : ℕ) (r : SinkResult) (after : List ℕ)
-    → sinkRefusal s (length frame) (length out) p ≡ 0 → AcceptedPromise s z frame out r after → SinkPromise s z frame out p r after
-promise-accepted s z frame out p r after none a =
+pub promise-accepted : (s : Settings) (z : SinkState) (w : Expected) (frame out : List ℕ) (p : ℕ) (r : SinkResult) (after : List ℕ)
+    → sinkRefusal s (length frame) (length out) p ≡ 0 → AcceptedPromise s z w frame out r after → SinkPromise s z w frame out p r after
+promise-accepted s z w frame out p r after none a =
     record {
       answer = a .answer ∙ sym (answer-accepted s z frame out p none);
-      state = a .state ∙ sym (state-accepted s z frame out p none);
-      handed-bytes = a .hands .length-is ∙ sym (ap length (handed-accepted s z frame out p none));
+      state = a .state ∙ sym (state-accepted s z frame w out p none);
+      handed-bytes = a .hands .length-is ∙ sym (ap length (handed-accepted s z frame w out p none));
       mended = a .mended ∙ sym (mended-accepted s z frame out p none);
-      out-buffer = a .hands .buffer ∙ sym (out-accepted s z frame out p none);
+      out-buffer = a .hands .buffer ∙ sym (out-accepted s z frame w out p none);
     }
 
 -- A call that no number turns back is not refused, and its standing is what the control bytes lead
 -- to.
-module _ {s : Settings} {z : SinkState} {frame out : List ℕ} {port : ℕ} (none : sinkRefusal s (length frame) (length out) port ≡ 0) {r : SinkResult}
-    {after : List ℕ} (p : SinkPromise s z frame out port r after) where
+module _ {s : Settings} {z : SinkState} {w : Expected} {frame out : List ℕ} {port : ℕ} (none : sinkRefusal s (length frame) (length out) port ≡ 0) {r : SinkResult}
+    {after : List ℕ} (p : SinkPromise s z w frame out port r after) where
   answered : answerMeaning (r .answer) ≡ accepted (standingAfter s z (controlOf (s .k) frame))
   answered = p .answer ∙ answer-accepted s z frame out port none
 
@@ -229,27 +285,28 @@ module _ (s : Settings) (p q : ℕ) (e : badPort p ≡ badPort q) where
     unfolding sinkAnswer
     any-answer = rw (any-refusal (length frame) (length out))
 
-    any-state : sinkState s z frame out p ≡ sinkState s z frame out q
-    unfolding sinkState
-    any-state = rw (any-refusal (length frame) (length out))
+    module _ (w : Expected) where
+      any-state : sinkState s z w frame out p ≡ sinkState s z w frame out q
+      unfolding sinkState
+      any-state = rw (any-refusal (length frame) (length out))
 
-    any-handed : sinkHanded s z frame out p ≡ sinkHanded s z frame out q
-    unfolding sinkHanded
-    any-handed = rw (any-refusal (length frame) (length out))
+      any-handed : sinkHanded s z w frame out p ≡ sinkHanded s z w frame out q
+      unfolding sinkHanded
+      any-handed = rw (any-refusal (length frame) (length out))
 
-    any-out : sinkOut s z frame out p ≡ sinkOut s z frame out q
-    unfolding sinkOut
-    any-out = ap (λ (l : List ℕ). l ++ drop (length l) out) any-handed
+      any-out : sinkOut s z w frame out p ≡ sinkOut s z w frame out q
+      unfolding sinkOut
+      any-out = ap (λ (l : List ℕ). l ++ drop (length l) out) any-handed
 
 pub any-port : AnyPort
 any-port =
     record {
       refusal = λ s f o p q e. any-refusal s p q e f o;
       answer = λ s z frame out p q e. any-answer s p q e z frame out;
-      state = λ s z frame out p q e. any-state s p q e z frame out;
+      state = λ s z w frame out p q e. any-state s p q e z frame out w;
       mended = λ s frame out p q e. any-mended s p q e frame out;
-      handed-bytes = λ s z frame out p q e. any-handed s p q e z frame out;
-      out-buffer = λ s z frame out p q e. any-out s p q e z frame out;
+      handed-bytes = λ s z w frame out p q e. any-handed s p q e z frame out w;
+      out-buffer = λ s z w frame out p q e. any-out s p q e z frame out w;
     }
 
 -- With mending off a reading goes by the check alone.

@@ -1,5 +1,6 @@
--- The sink (01, "Sink"). Three things are said apart: what is handed out, how the count follows,
--- and, in the crate card_sink, what the tallies add. Assumes nothing.
+-- The sink (01, "Sink"). Four things are said apart: what is handed out, over which the gate of the
+-- payload type stands (02, P4); how the count follows; how the type follows; and, in the crate
+-- card_sink, what the tallies add. Assumes nothing.
 use mathlib.Core.Path.{_≡_}
 use mathlib.Core.Bool.{Bool, true, false, not, cond}
 use mathlib.Core.List.{List, [], _∷_, _++_}
@@ -27,16 +28,20 @@ use Rattle.gmp_control.specs.declared.Remembered.the-variants.{Word, Nothing}
 use Rattle.gmp_control.specs.Word.{wordBy}
 use Rattle.gmp_control.specs.Follow.{usable, found, Follows}
 use Rattle.gmp_frame.specs.declared.Control.{Control}
-use Rattle.gmp_frame.specs.Frame.{clientBytes, controlOf}
+use Rattle.gmp_frame.specs.Frame.{clientBytes, controlOf, psiOf}
+use Rattle.gmp_payload_type.specs.declared.Types.{Types}
+use Rattle.gmp_payload_type.specs.declared.Expected.{Expected}
+use Rattle.gmp_payload_type.specs.Types.{newTypes, typesAfter, gateOpen}
 use Rattle.gmp_sink.specs.declared.SinkState.{SinkState}
 use Rattle.gmp_sink.specs.declared.SinkAnswer.{SinkAnswer}
 use Rattle.gmp_sink.specs.declared.SinkAnswer.the-variants.{Done, Refused}
 use Rattle.gmp_sink.specs.declared.SinkResult.{SinkResult}
 use Rattle.gmp_sink.specs.declared.Heard.{Heard}
 
--- "a known count or none, and a remembered word or none; a new sink has neither"
+-- "a known count or none, and a remembered word or none; a new sink has neither", and it has
+-- accepted no payload type (02, P4)
 abbrev pub newSink : SinkState
-newSink = record { count = Unknown; word = Nothing }
+newSink = record { count = Unknown; word = Nothing; types = newTypes }
 
 -- A call's own lines: 8, "frame buffer not exactly 4K + 8 bytes"; 9, "output buffer shorter than
 -- hi"; 10, "a port that is 0 or above 8, after number 9" (02, P2: "each sink call names its port");
@@ -55,9 +60,15 @@ abbrev pub atPlaces : ℕ → Count → List ℕ → List ℕ
 atPlaces k (Known n) frame = clientBytes k n frame
 atPlaces k Unknown frame = []
 
--- the bytes handed out: those at the places of the count known before the frame
+-- the bytes of a frame for the client: those at the places of the count known before the frame
 unfoldable pub handed : Settings → SinkState → List ℕ → List ℕ
 handed s z frame = atPlaces (s .k) (inWindow s (z .count)) frame
+
+-- The bytes handed out: those, or none "While the accepted type is none or not the expected one"
+-- (02, P4). "A frame's PSI byte is judged after its own bytes have or have not been handed out":
+-- the gate goes by the types that were remembered before the frame.
+unfoldable pub released : Settings → SinkState → Expected → List ℕ → List ℕ
+released s z e frame = cond (gateOpen (s .«type_check») (z .types) e) (handed s z frame) []
 
 -- what the control bytes read as: whole, mended where the settings say so, or bad (02, P1)
 abbrev pub readingOf : Settings → Control → Reading
@@ -82,7 +93,17 @@ wordAfter Bad = Nothing
 
 -- the state after these control bytes: what was found, and the word
 unfoldable pub stateAfter : Settings → SinkState → Control → SinkState
-stateAfter s z c = record { count = standingAfter s z c .count; word = wordAfter (readingOf s c) }
+stateAfter s z c = record { count = standingAfter s z c .count; word = wordAfter (readingOf s c); types = z .types }
+
+-- the same state with other types remembered
+abbrev pub withTypes : SinkState → Types → SinkState
+withTypes z t = record { count = z .count; word = z .word; types = t }
+
+-- the state after a frame: after its control bytes, and then after its PSI byte (01, "the sink
+-- ignores them and the PSI byte", which 02, P4 replaces for the PSI byte where the check is on)
+abbrev pub frameAfter : Settings → SinkState → Expected → List ℕ → SinkState
+frameAfter s z e frame =
+    withTypes (stateAfter s z (controlOf (s .k) frame)) (typesAfter (s .«type_check») (z .types) e (psiOf (s .k) frame))
 
 -- "whether it was mended"
 abbrev pub isMended : Reading → Bool
@@ -112,8 +133,8 @@ unfoldable pub sinkAnswer : Settings → SinkState → List ℕ → List ℕ →
 sinkAnswer s z frame out port = answerBy (sinkRefusal s (length frame) (length out) port) (standingAfter s z (controlOf (s .k) frame))
 
 -- the state after a call: a refused call returns the state it was given
-unfoldable pub sinkState : Settings → SinkState → List ℕ → List ℕ → ℕ → SinkState
-sinkState s z frame out port = cond (eqb (sinkRefusal s (length frame) (length out) port) 0) (stateAfter s z (controlOf (s .k) frame)) z
+unfoldable pub sinkState : Settings → SinkState → Expected → List ℕ → List ℕ → ℕ → SinkState
+sinkState s z e frame out port = cond (eqb (sinkRefusal s (length frame) (length out) port) 0) (frameAfter s z e frame) z
 
 -- whether a call mended a bit: a refused one mends nothing
 unfoldable pub sinkMended : Settings → List ℕ → List ℕ → ℕ → Bool
@@ -121,20 +142,31 @@ sinkMended s frame out port = cond (eqb (sinkRefusal s (length frame) (length ou
 
 -- the bytes that a call hands out, and the output buffer after it: "bytes after them keep their
 -- content"
-unfoldable pub sinkHanded : Settings → SinkState → List ℕ → List ℕ → ℕ → List ℕ
-sinkHanded s z frame out port = cond (eqb (sinkRefusal s (length frame) (length out) port) 0) (handed s z frame) []
+unfoldable pub sinkHanded : Settings → SinkState → Expected → List ℕ → List ℕ → ℕ → List ℕ
+sinkHanded s z e frame out port = cond (eqb (sinkRefusal s (length frame) (length out) port) 0) (released s z e frame) []
 
-unfoldable pub sinkOut : Settings → SinkState → List ℕ → List ℕ → ℕ → List ℕ
-sinkOut s z frame out port = sinkHanded s z frame out port ++ drop (length (sinkHanded s z frame out port)) out
+unfoldable pub sinkOut : Settings → SinkState → Expected → List ℕ → List ℕ → ℕ → List ℕ
+sinkOut s z e frame out port = sinkHanded s z e frame out port ++ drop (length (sinkHanded s z e frame out port)) out
 
 -- What a call promises: its answer, the new state, the number of bytes handed out, whether a bit
 -- was mended, and every byte of the output buffer.
-pub record SinkPromise (s : Settings) (z : SinkState) (frame out : List ℕ) (port : ℕ) (r : SinkResult) (after : List ℕ) : Type 0 where
+pub record SinkPromise (s : Settings) (z : SinkState) (e : Expected) (frame out : List ℕ) (port : ℕ) (r : SinkResult) (after : List ℕ) : Type 0 where
   pub answer : answerMeaning (r .answer) ≡ sinkAnswer s z frame out port
-  pub state : r .state ≡ sinkState s z frame out port
-  pub handed-bytes : r .handed ≡ length (sinkHanded s z frame out port)
+  pub state : r .state ≡ sinkState s z e frame out port
+  pub handed-bytes : r .handed ≡ length (sinkHanded s z e frame out port)
   pub mended : r .mended ≡ sinkMended s frame out port
-  pub out-buffer : after ≡ sinkOut s z frame out port
+  pub out-buffer : after ≡ sinkOut s z e frame out port
+
+-- "off, all is as before and what is remembered of types stays" (02, P4). What a call hands out and
+-- the state after it are what they were without the check, whatever was expected; what it answers
+-- and mends does not look at the type at all.
+pub record UncheckedAsBefore : Type 0 where
+  pub state : (s : Settings) (z : SinkState) (e : Expected) (frame out : List ℕ) (port : ℕ) → s .«type_check» ≡ false
+      → sinkState s z e frame out port ≡ cond (eqb (sinkRefusal s (length frame) (length out) port) 0) (stateAfter s z (controlOf (s .k) frame)) z
+  pub types : (s : Settings) (z : SinkState) (e : Expected) (frame out : List ℕ) (port : ℕ) → s .«type_check» ≡ false
+      → sinkState s z e frame out port .types ≡ z .types
+  pub handed-bytes : (s : Settings) (z : SinkState) (e : Expected) (frame out : List ℕ) (port : ℕ) → s .«type_check» ≡ false
+      → sinkHanded s z e frame out port ≡ cond (eqb (sinkRefusal s (length frame) (length out) port) 0) (handed s z frame) []
 
 -- Two ports that number 10 turns back both or neither are alike to a call: its answer, the state
 -- and the output buffer after it, what it mends and hands out are the same on the one as on the
@@ -142,10 +174,10 @@ pub record SinkPromise (s : Settings) (z : SinkState) (frame out : List ℕ) (po
 pub record AnyPort : Type 0 where
   pub refusal : (s : Settings) (frameLength outLength p q : ℕ) → badPort p ≡ badPort q → sinkRefusal s frameLength outLength p ≡ sinkRefusal s frameLength outLength q
   pub answer : (s : Settings) (z : SinkState) (frame out : List ℕ) (p q : ℕ) → badPort p ≡ badPort q → sinkAnswer s z frame out p ≡ sinkAnswer s z frame out q
-  pub state : (s : Settings) (z : SinkState) (frame out : List ℕ) (p q : ℕ) → badPort p ≡ badPort q → sinkState s z frame out p ≡ sinkState s z frame out q
+  pub state : (s : Settings) (z : SinkState) (e : Expected) (frame out : List ℕ) (p q : ℕ) → badPort p ≡ badPort q → sinkState s z e frame out p ≡ sinkState s z e frame out q
   pub mended : (s : Settings) (frame out : List ℕ) (p q : ℕ) → badPort p ≡ badPort q → sinkMended s frame out p ≡ sinkMended s frame out q
-  pub handed-bytes : (s : Settings) (z : SinkState) (frame out : List ℕ) (p q : ℕ) → badPort p ≡ badPort q → sinkHanded s z frame out p ≡ sinkHanded s z frame out q
-  pub out-buffer : (s : Settings) (z : SinkState) (frame out : List ℕ) (p q : ℕ) → badPort p ≡ badPort q → sinkOut s z frame out p ≡ sinkOut s z frame out q
+  pub handed-bytes : (s : Settings) (z : SinkState) (e : Expected) (frame out : List ℕ) (p q : ℕ) → badPort p ≡ badPort q → sinkHanded s z e frame out p ≡ sinkHanded s z e frame out q
+  pub out-buffer : (s : Settings) (z : SinkState) (e : Expected) (frame out : List ℕ) (p q : ℕ) → badPort p ≡ badPort q → sinkOut s z e frame out p ≡ sinkOut s z e frame out q
 
 -- What is known of a call that no number turns back. Its port is not among it: nothing that is done
 -- then looks at the port.
@@ -173,8 +205,8 @@ pub record ReadsControl (s : Settings) (z : SinkState) (c : Control) (r : Heard)
   pub mended : r .mended ≡ mendedIn s c
 
 -- What the whole call promises.
-pub record AcceptedPromise (s : Settings) (z : SinkState) (frame out : List ℕ) (r : SinkResult) (after : List ℕ) : Type 0 where
+pub record AcceptedPromise (s : Settings) (z : SinkState) (e : Expected) (frame out : List ℕ) (r : SinkResult) (after : List ℕ) : Type 0 where
   pub answer : answerMeaning (r .answer) ≡ accepted (standingAfter s z (controlOf (s .k) frame))
-  pub state : r .state ≡ stateAfter s z (controlOf (s .k) frame)
+  pub state : r .state ≡ frameAfter s z e frame
   pub mended : r .mended ≡ mendedIn s (controlOf (s .k) frame)
-  pub hands : HandsOut (handed s z frame) out (r .handed) after
+  pub hands : HandsOut (released s z e frame) out (r .handed) after

@@ -2,16 +2,18 @@
 // gmp_sink_call.
 use gmp_control::Followed;
 use gmp_control::Remembered;
+use gmp_payload_type::Types;
 use gmp_refusal::Refusal;
 use gmp_standing::Count;
 use gmp_standing::Standing;
 ghost use mathlib.Core.Path.{_≡_};
-ghost use Rattle.gmp_sink.specs.Sink.{newSink, AnyPort, OffAsBefore};
+ghost use Rattle.gmp_sink.specs.Sink.{newSink, AnyPort, OffAsBefore, UncheckedAsBefore};
 
-// A known count or none, and a remembered word or none.
+// A known count or none, a remembered word or none, and what is remembered of payload types.
 pub struct SinkState {
     pub count: Count,
     pub word: Remembered,
+    pub types: Types,
 }
 
 // The standing after the frame, or why the call is turned back.
@@ -42,6 +44,7 @@ pub fn new_sink() -> SinkState
     SinkState {
         count: Count::Unknown,
         word: Remembered::Nothing,
+        types: gmp_payload_type::new_types(),
     }
 }
 
@@ -49,6 +52,12 @@ pub fn new_sink() -> SinkState
 // state and the output buffer after it.
 pub fn any_port()
     ensures { λ _. ⌜ AnyPort ⌝ }
+{}
+
+// With the type check off, what a call hands out and the state after it are what they were without
+// it, whatever was expected, and what is remembered of types stays.
+pub fn unchecked_as_before()
+    ensures { λ _. ⌜ UncheckedAsBefore ⌝ }
 {}
 
 // With mending off the control bytes lead where 01's rules lead, and nothing is mended.

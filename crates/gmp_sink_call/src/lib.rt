@@ -1,10 +1,11 @@
 // The sink's call: it hands out the client bytes of a frame at the places of the count that it knew
-// before, and follows the control word.
+// before, where the payload type lets them pass, and follows the control word and the type.
 use gmp_control::Followed;
 use gmp_control::Remembered;
 use gmp_crc8::ReadWord;
 use gmp_crc8::Reading;
 use gmp_frame::Control;
+use gmp_payload_type::Expected;
 use gmp_refusal::Refusal;
 use gmp_refusal::Verdict;
 use gmp_settings::Settings;
@@ -15,24 +16,27 @@ use gmp_sink::SinkState;
 use gmp_standing::Count;
 use gmp_standing::Standing;
 ghost use mathlib.Core.Path.{_≡_};
+ghost use mathlib.Core.Bool.{cond};
+ghost use mathlib.Core.List.{[]};
 ghost use lib.ListN.{length};
 ghost use Rattle.gmp_refusal.specs.Refusal.{verdictNumber};
 ghost use Rattle.gmp_sink.specs.Sink.{sinkRefusal, handed, Accepted, AcceptedPromise, HandsOut, HearsWord, ReadsControl, SinkPromise};
 
-// Takes a frame of this port. A refused call returns the state that it was given and leaves the
-// output buffer as it was.
+// Takes a frame of this port, told its multiframe number and the payload type that is expected. A
+// refused call returns the state that it was given and leaves the output buffer as it was.
 pub fn take_frame(
     settings: Settings,
     state: SinkState,
+    expected: Expected,
     frame: &[u8],
     out: &mut [u8],
     port: u32,
 ) -> SinkResult
-    ensures { λ r. ⌜ SinkPromise settings state (now (frame .entry)) (now (out .entry)) port r (now (out .exit)) ⌝ }
+    ensures { λ r. ⌜ SinkPromise settings state expected (now (frame .entry)) (now (out .entry)) port r (now (out .exit)) ⌝ }
 {
     let verdict = judge_call(settings, frame.len(), out.len(), port);
     let Verdict::Refused(refusal) = verdict else {
-        return take_accepted(settings, state, frame, out);
+        return take_accepted(settings, state, expected, frame, out);
     };
     SinkResult {
         answer: SinkAnswer::Refused(refusal),
@@ -42,11 +46,17 @@ pub fn take_frame(
     }
 }
 
-// The same where nothing is refused, whatever the port. The count that was known before the frame
-// says which bytes are handed out.
-fn take_accepted(settings: Settings, state: SinkState, frame: &[u8], out: &mut [u8]) -> SinkResult
+// The same where nothing is refused, whatever the port. The count and the payload type that were
+// known before the frame say which bytes are handed out.
+fn take_accepted(
+    settings: Settings,
+    state: SinkState,
+    expected: Expected,
+    frame: &[u8],
+    out: &mut [u8],
+) -> SinkResult
     requires { ⌜ Accepted settings (length (now frame)) (length (now out)) ⌝ }
-    ensures { λ r. ⌜ AcceptedPromise settings state (now (frame .entry)) (now (out .entry)) r (now (out .exit)) ⌝ }
+    ensures { λ r. ⌜ AcceptedPromise settings state expected (now (frame .entry)) (now (out .entry)) r (now (out .exit)) ⌝ }
 {
     let control = gmp_frame::control_of(frame, settings.k);
     let heard = read_control(settings, state, control);
@@ -54,17 +64,33 @@ fn take_accepted(settings: Settings, state: SinkState, frame: &[u8], out: &mut [
     let standing = followed.standing;
     let count = followed.count;
     let word = followed.word;
+    let psi = gmp_frame::psi_of(frame, settings.k);
+    let before = state.types;
+    let types = gmp_payload_type::read_psi(settings.type_check, before, expected, psi);
     let after = SinkState {
         count: count,
         word: word,
+        types: types,
     };
-    let handed = hand_out(settings, state, frame, out);
+    let is_open = gmp_payload_type::gate_open(settings.type_check, before, expected);
+    let handed = release(settings, state, is_open, frame, out);
     SinkResult {
         answer: SinkAnswer::Done(standing),
         state: after,
         handed: handed,
         mended: heard.mended,
     }
+}
+
+// Hands out the client bytes where the gate of the payload type is open, and gives their number.
+fn release(settings: Settings, state: SinkState, is_open: bool, frame: &[u8], out: &mut [u8]) -> u32
+    requires { ⌜ Accepted settings (length (now frame)) (length (now out)) ⌝ }
+    ensures { λ r. ⌜ HandsOut (cond «is_open» (handed settings state (now (frame .entry))) []) (now (out .entry)) r (now (out .exit)) ⌝ }
+{
+    if is_open {
+        return hand_out(settings, state, frame, out);
+    }
+    0
 }
 
 // Copies the client bytes at the places of a known count to the start of the output buffer, and

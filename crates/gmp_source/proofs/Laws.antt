@@ -20,8 +20,8 @@ use Rattle.gmp_control.specs.Word.{wordBytes, wordBy}
 use Rattle.gmp_control.specs.Pattern.{tableOf}
 use Rattle.gmp_control.specs.Announce.{announced}
 use Rattle.gmp_control.proofs.Laws.{word-back, word-bytes}
-use Rattle.gmp_frame.specs.Frame.{controlOf, clientBytes}
-use Rattle.gmp_frame.proofs.Laws.{control-written, client-taken, length-frame}
+use Rattle.gmp_frame.specs.Frame.{controlOf, psiOf, clientBytes}
+use Rattle.gmp_frame.proofs.Laws.{control-written, psi-written, client-taken, length-frame}
 use Rattle.gmp_source.specs.declared.SourceState.{SourceState}
 use Rattle.gmp_source.specs.Source.{stateReasons, startReasons, startRefusal, sourceReasons, sourceRefusal, psi, controlBytes, written, nextState, sourceState, sourceFrame}
 
@@ -97,7 +97,8 @@ module _ (s : Settings) (old next : ℕ) where
       let b = word-bytes (tableOf s) old next in
       (b .0, b .1, remainder-lt (w .jc1) (w .jc2))
 
--- the client bytes of a written frame come out of it again, and it has these control bytes
+-- the client bytes of a written frame come out of it again, and it has these control bytes and this
+-- PSI byte
 pub client-of-written : (s : Settings) (z : SourceState) (next : ℕ) (client : List ℕ) → length client ≤ payloadBytes (s .k)
     → clientBytes (s .k) (length client) (written s z next client) ≡ client
 unfolding written
@@ -106,6 +107,10 @@ client-of-written s z next client h = client-taken (s .k) client (controlBytes s
 pub control-of-written : (s : Settings) (z : SourceState) (next : ℕ) (client : List ℕ) → controlOf (s .k) (written s z next client) ≡ controlBytes s (z .count) next
 unfolding written
 control-of-written s z next client = control-written (s .k) client (controlBytes s (z .count) next) (psi z)
+
+pub psi-of-written : (s : Settings) (z : SourceState) (next : ℕ) (client : List ℕ) → psiOf (s .k) (written s z next client) ≡ psi z
+unfolding written
+psi-of-written s z next client = psi-written (s .k) client (controlBytes s (z .count) next) (psi z)
 
 pub length-of-written : (s : Settings) (z : SourceState) (next : ℕ) (client : List ℕ) → length (written s z next client) ≡ frameBytes (s .k)
 unfolding written

@@ -1,6 +1,7 @@
 // Shows what a new sink makes of the 16-byte frames on standard input (K = 2, window 0 to 8): a
 // line for each frame, and a last line where the input ends within one. Every byte of a line is
 // promised by the functions that make it.
+use gmp_payload_type::Expected;
 use gmp_sink::SinkAnswer;
 use gmp_sink::SinkState;
 use gmp_standing::Count;
@@ -117,8 +118,9 @@ fn write_line(line: &[u8]) -> bool {
     program_stream::write_out(line, b"sinkshow: standard output")
 }
 
-// Hands a frame to the sink, as one of port 1, and makes its line. With 16 bytes, these settings,
-// this output buffer and this port no call is refused.
+// Hands a frame to the sink, as one of port 1, and makes its line. The payload type is not checked,
+// so what the sink is told of the frame is not looked at. With 16 bytes, these settings, this
+// output buffer and this port no call is refused.
 fn take_frame(run: Run, frame: &[u8], line: &mut [u8]) -> Shown
     requires { ⌜ (length (now frame) ≡ 16) × (72 ≤ length (now line)) × (run .frames < 18446744073709551615) ⌝ }
     ensures { λ r. ⌜ Shows run (now (frame .entry)) (now (line .entry)) r (now (line .exit)) ⌝ }
@@ -126,7 +128,11 @@ fn take_frame(run: Run, frame: &[u8], line: &mut [u8]) -> Shown
     let settings = gmp_settings::new_settings(2, 0, 8);
     let state = run.state;
     let mut out = [0u8; 8];
-    let result = gmp_sink_call::take_frame(settings, state, frame, &mut out, 1);
+    let untold = Expected {
+        multiframe: 0,
+        payload_type: 0,
+    };
+    let result = gmp_sink_call::take_frame(settings, state, untold, frame, &mut out, 1);
     let answer = result.answer;
     let after = result.state;
     let SinkAnswer::Done(standing) = answer else {

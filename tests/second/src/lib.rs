@@ -4,9 +4,10 @@
 //! own order and with no thought of speed: every place is tested by n × C mod S < C, the check is a
 //! long division bit by bit, a wrong control bit is looked for by turning each of the 24 over, the
 //! rule of given patterns is asked at each bit, the sink is the paper's rules 1 to 3 one after the
-//! other, and the card's tallies are worked out from a book of all accepted calls. Where the paper
-//! is silent it goes by odu0.h: a multiframe number above 255 is taken modulo 256. Of a remembered
-//! word only the 16 bits that a word has are looked at.
+//! other, the accepted type is looked up in a book of all types judged, and the card's tallies are
+//! worked out from a book of all accepted calls. Where the paper is silent it goes by odu0.h: a
+//! multiframe number above 255 is taken modulo 256. Of a remembered word only the 16 bits that a
+//! word has are looked at.
 
 mod random;
 
@@ -21,8 +22,8 @@ pub const STANDARD: Patterns =
     [(1, 0b10101010101010), (-1, 0b01010101010101), (2, 0b01100110011001), (-2, 0b10011001100110)];
 
 /// The settings: K payload columns in a row, the window of counts, the patterns that take the place
-/// of the paper's, if there are some (02, P11), and whether the sink mends one wrong control bit
-/// (02, P1).
+/// of the paper's, if there are some (02, P11), whether the sink mends one wrong control bit (02,
+/// P1), and whether it checks the payload type (02, P4).
 #[derive(Clone, Copy, Debug, PartialEq, Eq)]
 pub struct Settings {
     pub k: u32,
@@ -30,13 +31,14 @@ pub struct Settings {
     pub hi: u32,
     pub patterns: Option<Patterns>,
     pub mending: bool,
+    pub type_check: bool,
 }
 
 impl Settings {
     pub const OPU0: Settings = Settings::new(3808, 14405, 14410);
 
     pub const fn new(k: u32, lo: u32, hi: u32) -> Settings {
-        Settings { k, lo, hi, patterns: None, mending: false }
+        Settings { k, lo, hi, patterns: None, mending: false, type_check: false }
     }
 
     /// The same with four patterns, in the order of P11: for +1, −1, +2, −2.
@@ -48,6 +50,11 @@ impl Settings {
     /// The same with mending on.
     pub const fn with_mending(self) -> Settings {
         Settings { mending: true, ..self }
+    }
+
+    /// The same with the type check on.
+    pub const fn with_type_check(self) -> Settings {
+        Settings { type_check: true, ..self }
     }
 
     /// S: how many payload bytes a frame has.
@@ -431,11 +438,66 @@ impl Card {
     }
 }
 
-/// A sink's state: a known count or none, a remembered word or none.
+/// What a sink is told with the type check on: the multiframe number and the type expected (02,
+/// P4).
+#[derive(Clone, Copy, Debug, PartialEq, Eq)]
+pub struct Expected {
+    pub multiframe: u32,
+    pub payload_type: u8,
+}
+
+/// What a sink knows of types, kept as a book: the type that was accepted when it was begun, if
+/// there was one, and an entry for each PSI byte that was judged. The accepted type is looked up
+/// when it is asked for (02, P4).
+#[derive(Clone, Debug, Default)]
+pub struct Types {
+    began: Option<u8>,
+    judged: Vec<u8>,
+}
+
+impl Types {
+    pub fn new() -> Types {
+        Types::default()
+    }
+
+    /// A book that was begun with this accepted type, or none, and has these entries.
+    pub fn with(began: Option<u8>, judged: &[u8]) -> Types {
+        Types { began, judged: judged.to_vec() }
+    }
+
+    /// The accepted type: that of the last three entries running which are the same, or if there
+    /// are no such three the earlier one, or none.
+    pub fn accepted(&self) -> Option<u8> {
+        let the_same = |three: &&[u8]| three[0] == three[1] && three[0] == three[2];
+        let last = self.judged.windows(3).rfind(the_same);
+        last.map(|three| three[0]).or(self.began)
+    }
+
+    /// The last entry, and the one before it too where it is the same. Nothing else of the book
+    /// counts for what comes, but the accepted type.
+    pub fn run(&self) -> &[u8] {
+        let two = &self.judged[self.judged.len().saturating_sub(2)..];
+        match two {
+            [before, last] if before != last => &two[1..],
+            _ => two,
+        }
+    }
+}
+
+impl PartialEq for Types {
+    fn eq(&self, other: &Types) -> bool {
+        (self.accepted(), self.run()) == (other.accepted(), other.run())
+    }
+}
+
+impl Eq for Types {}
+
+/// A sink's state: a known count or none, a remembered word or none, and what it knows of types.
 #[derive(Clone, Debug, Default, PartialEq, Eq)]
 pub struct Sink {
     pub count: Option<u32>,
     pub word: Option<u32>,
+    pub types: Types,
 }
 
 impl Sink {
@@ -458,6 +520,7 @@ impl Sink {
     pub fn call(
         &mut self,
         settings: Settings,
+        expected: Expected,
         frame: &[u8],
         out: &mut [u8],
         port: u32,
@@ -469,9 +532,11 @@ impl Sink {
         let known = self.count.filter(|count| settings.holds(*count));
         let before = self.word.filter(|word| ii(*word) != di(*word));
 
-        // First the client bytes, by the count known before.
+        // First the client bytes, by the count known before; none while the accepted type is none
+        // or not the expected one.
+        let kept_back = settings.type_check && self.types.accepted() != Some(expected.payload_type);
         let mut handed = 0;
-        if let Some(count) = known {
+        if let (Some(count), false) = (known, kept_back) {
             for (n, at) in (1..).zip(payload_bytes(settings.k)) {
                 if carries(n, u64::from(count), settings.payload()) {
                     out[handed] = frame[at];
@@ -515,6 +580,12 @@ impl Sink {
         }
         self.count = standing.count();
 
+        // At last the PSI byte, in frames numbered 0.
+        let multiframe = expected.multiframe % 256;
+        if settings.type_check && multiframe == 0 {
+            self.types.judged.push(frame[3 * row]);
+        }
+
         let handed = handed as u32;
         card.entries.push(Entry { port, bad: standing == Standing::BadCheck, handed });
         Ok(Taken { standing, handed, mended })
@@ -541,9 +612,12 @@ mod tests {
         frame
     }
 
+    /// Where the type check is off nothing is looked at in this.
+    const ANY: Expected = Expected { multiframe: 0, payload_type: 0 };
+
     fn taken(sink: &mut Sink, settings: Settings, control: [u8; 3]) -> Taken {
         let mut out = vec![0; settings.hi as usize];
-        sink.call(settings, &frame(settings, control), &mut out, 1, &mut Card::new()).unwrap()
+        sink.call(settings, ANY, &frame(settings, control), &mut out, 1, &mut Card::new()).unwrap()
     }
 
     fn standing(sink: &mut Sink, settings: Settings, control: [u8; 3]) -> Standing {
@@ -623,7 +697,7 @@ mod tests {
         assert_eq!(standing(&mut sink, Settings::OPU0, then), Standing::Paired(14409));
 
         let (wide, small) = (Settings::new(3808, 0, 15232), Settings::new(2, 0, 8));
-        let mut sink = Sink { count: Some(2932), word: None };
+        let mut sink = Sink { count: Some(2932), ..Sink::new() };
         assert_eq!(standing(&mut sink, wide, first), Standing::Tracked(2934));
         assert_eq!(standing(&mut sink, wide, then), Standing::Paired(14409));
 
@@ -641,11 +715,11 @@ mod tests {
         for control in [[0x0B, 0xB6, 0x38], [0x4B, 0xB7, 0x38], [0x4B, 0xB6, 0xB8]] {
             assert_eq!(read(off, control), None);
             assert_eq!(read(on, control), Some((0x4BB6, true)));
-            let mut sink = Sink { count: Some(14407), word: None };
+            let mut sink = Sink { count: Some(14407), ..Sink::new() };
             let standing = Standing::Tracked(14408);
             let answer = Taken { standing, handed: 14407, mended: true };
             assert_eq!(taken(&mut sink, on, control), answer);
-            assert_eq!(sink, Sink { count: Some(14408), word: Some(0x4BB6) });
+            assert_eq!(sink, Sink { count: Some(14408), word: Some(0x4BB6), ..Sink::new() });
             let answer = Taken { standing: Standing::BadCheck, handed: 14408, mended: false };
             assert_eq!(taken(&mut sink, off, control), answer);
             assert_eq!(sink, Sink::new());
@@ -670,8 +744,8 @@ mod tests {
         let mut card = Card::with(began);
         let eight = Settings::new(2, 0, 8);
         let mut call = |port: u32, count: u32, control: [u8; 3]| {
-            let mut sink = Sink { count: Some(count), word: None };
-            sink.call(eight, &frame(eight, control), &mut [0; 8], port, &mut card)
+            let mut sink = Sink { count: Some(count), ..Sink::new() };
+            sink.call(eight, ANY, &frame(eight, control), &mut [0; 8], port, &mut card)
                 .map(|taken| taken.handed)
         };
         assert_eq!(call(2, 3, [0; 3]), Ok(3));
@@ -688,6 +762,58 @@ mod tests {
         let largest = u128::from(largest);
         assert_eq!(card.total(), [largest + 2, largest + 1, largest + 11]);
         assert_eq!(Card::with([wanted[7 - 1]; 8]).total(), [34_359_738_360; 3]);
+    }
+
+    /// A sink at the count 4 that expects type 7: how much it hands out of frames with such numbers
+    /// and PSI bytes, and the type that is accepted after each.
+    #[test]
+    fn worked_types() {
+        let on = Settings::new(2, 0, 8).with_type_check();
+        let mut sink = Sink { count: Some(4), ..Sink::new() };
+        let mut call = |settings: Settings, multiframe: u32, psi: u8| {
+            let mut frame = frame(settings, control(settings, 4, 4));
+            frame[12] = psi;
+            let expected = Expected { multiframe, payload_type: 7 };
+            let taken = sink.call(settings, expected, &frame, &mut [0; 8], 1, &mut Card::new());
+            (taken.unwrap().handed, sink.types.accepted())
+        };
+        assert_eq!(call(on, 0, 7), (0, None));
+        assert_eq!(call(on, 1, 0), (0, None));
+        assert_eq!(call(on, 256, 7), (0, None));
+        // Frames with the check off are handed out, and neither count nor end the run.
+        let off = Settings { type_check: false, ..on };
+        assert_eq!(call(off, 0, 9), (4, None));
+        assert_eq!(call(off, 0, 7), (4, None));
+        // The third: its own bytes are not handed out yet.
+        assert_eq!(call(on, 512, 7), (0, Some(7)));
+        assert_eq!(call(on, 513, 0), (4, Some(7)));
+        // Another type twice, and with the run ended three times: its third frame is handed out.
+        assert_eq!(call(on, 0, 0), (4, Some(7)));
+        assert_eq!(call(on, 0, 0), (4, Some(7)));
+        assert_eq!(call(on, 0, 5), (4, Some(7)));
+        assert_eq!(call(on, 0, 0), (4, Some(7)));
+        assert_eq!(call(on, 0, 0), (4, Some(7)));
+        assert_eq!(call(on, 0, 0), (4, Some(0)));
+        assert_eq!(call(on, 0, 0), (0, Some(0)));
+        assert_eq!(call(on, 1, 0), (0, Some(0)));
+    }
+
+    /// What counts of a book: the accepted type and the run at its end, two being as good as more.
+    #[test]
+    fn worked_books() {
+        let book = |judged: &[u8]| Types::with(Some(1), judged);
+        assert_eq!((book(&[]).accepted(), book(&[]).run()), (Some(1), &[][..]));
+        assert_eq!((book(&[7]).accepted(), book(&[7]).run()), (Some(1), &[7][..]));
+        assert_eq!((book(&[7, 7]).accepted(), book(&[7, 7]).run()), (Some(1), &[7, 7][..]));
+        assert_eq!(book(&[7, 7, 8]), book(&[8]));
+        assert_eq!(book(&[7, 7, 7]), Types::with(Some(7), &[7, 7]));
+        assert_eq!(book(&[7, 7, 7, 7]), book(&[7, 7, 7]));
+        assert_eq!(book(&[7, 7, 7, 8, 8]), Types::with(Some(7), &[8, 8]));
+        assert_eq!(book(&[7, 7, 7, 8, 8, 8, 9]), Types::with(Some(8), &[9]));
+        assert_ne!(book(&[7, 7]), book(&[7]));
+        assert_ne!(book(&[7]), book(&[]));
+        assert_ne!(book(&[0]), book(&[]));
+        assert_ne!(Types::with(Some(0), &[]), Types::new());
     }
 
     #[test]

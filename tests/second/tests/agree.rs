@@ -24,5 +24,7 @@ mod ports;
 mod refusals;
 #[path = "agree/runs.rs"]
 mod runs;
+#[path = "agree/types.rs"]
+mod types;
 #[path = "agree/words.rs"]
 mod words;

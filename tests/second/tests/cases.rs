@@ -1,14 +1,17 @@
 //! The worked frames of the scope paper, the worked counts of 02's P7 and worked cases of its P1,
-//! P2 and P11, run against the library: those that are proved as well, and the others.
+//! P2, P4 and P11, run against the library: those that are proved as well, and the others.
 
 use odu0::{
-    Keeper, Patterns, Refusal, Settings, Sink, Source, Standing, Taken, Tallies, Tally, Total,
-    PORTS,
+    Expected, Keeper, Patterns, Refusal, Seen, Settings, Sink, Source, Standing, Taken, Tallies,
+    Tally, Total, PORTS,
 };
 
 const OPU0: Settings = Settings::OPU0;
 const WIDE: Settings = Settings::new(3808, 0, 15232);
 const EIGHT: Settings = Settings::new(2, 0, 8);
+
+/// What a call is told where the type check is off.
+const ANY: Expected = Expected { multiframe: 0, payload_type: 0 };
 
 /// Where JC1, JC2 and JC3 stand.
 fn control_bytes(settings: Settings) -> [usize; 3] {
@@ -37,7 +40,7 @@ fn taken(sink: &mut Sink, settings: Settings, control: [u8; 3]) -> Taken {
         frame[at] = byte;
     }
     let mut out = vec![0; settings.hi as usize];
-    sink.call(settings, &frame, &mut out, 1, &mut Tallies::new()).unwrap()
+    sink.call(settings, ANY, &frame, &mut out, 1, &mut Tallies::new()).unwrap()
 }
 
 /// What a sink says of such a frame, in which nothing is mended.
@@ -60,15 +63,15 @@ fn words_of_a_source() {
 #[test]
 fn a_new_sink_pairs_two_words() {
     let mut sink = Sink::new();
-    assert_eq!(sink, Sink { count: None, word: None });
+    assert_eq!(sink, Sink { count: None, word: None, accepted: None, seen: Seen::Never });
     assert_eq!(said(&mut sink, OPU0, [0x4B, 0xB6, 0x38]), Standing::Waiting);
     assert_eq!(said(&mut sink, OPU0, [0x4B, 0x8A, 0x19]), Standing::Paired(14409));
-    assert_eq!(sink, Sink { count: Some(14409), word: Some(0x4B8A) });
+    assert_eq!(sink, Sink { count: Some(14409), word: Some(0x4B8A), ..Sink::new() });
 }
 
 #[test]
 fn a_false_count_is_left_by_a_pair() {
-    let mut sink = Sink { count: Some(2932), word: None };
+    let mut sink = Sink { count: Some(2932), ..Sink::new() };
     assert_eq!(said(&mut sink, WIDE, [0x4B, 0xB6, 0x38]), Standing::Tracked(2934));
     assert_eq!(said(&mut sink, WIDE, [0x4B, 0x8A, 0x19]), Standing::Paired(14409));
 }
@@ -78,7 +81,7 @@ fn zeros_pass_the_check_and_ones_do_not() {
     assert_eq!(said(&mut Sink::new(), OPU0, [0x00; 3]), Standing::Outside);
     assert_eq!(said(&mut Sink::new(), EIGHT, [0x00; 3]), Standing::Read(0));
     for settings in [OPU0, WIDE, EIGHT] {
-        let mut sink = Sink { count: Some(settings.lo), word: Some(0x4BB6) };
+        let mut sink = Sink { count: Some(settings.lo), word: Some(0x4BB6), ..Sink::new() };
         assert_eq!(said(&mut sink, settings, [0xFF; 3]), Standing::BadCheck);
         assert_eq!(sink, Sink::new());
     }
@@ -104,9 +107,9 @@ fn places_of_eight() {
 
         // A frame in which each payload byte is its own place.
         let by_place = [0, 0, 1, 2, 0, 0, 3, 4, 0, 0, 5, 6, 0, 0, 7, 8];
-        let (mut sink, mut tallies) = (Sink { count: Some(count), word: None }, Tallies::new());
+        let (mut sink, mut tallies) = (Sink { count: Some(count), ..Sink::new() }, Tallies::new());
         let mut out = [0xEE; 9];
-        let taken = sink.call(EIGHT, &by_place, &mut out, 1, &mut tallies);
+        let taken = sink.call(EIGHT, ANY, &by_place, &mut out, 1, &mut tallies);
         let answer = Taken { standing: Standing::Read(0), handed: count, mended: false };
         assert_eq!(taken, Ok(answer));
         assert_eq!(out[..places.len()], *places);
@@ -122,10 +125,10 @@ fn one_wrong_bit_of_a_word() {
     for bit in 0..24 {
         let mut control = [0x4B, 0xB6, 0x38];
         control[bit / 8] ^= 0x80 >> (bit % 8);
-        let mut sink = Sink { count: Some(14407), word: None };
+        let mut sink = Sink { count: Some(14407), ..Sink::new() };
         let answer = Taken { standing: Standing::Tracked(14408), handed: 14407, mended: true };
         assert_eq!(taken(&mut sink, OPU0.with_mending(), control), answer, "{control:02X?}");
-        assert_eq!(sink, Sink { count: Some(14408), word: Some(0x4BB6) });
+        assert_eq!(sink, Sink { count: Some(14408), word: Some(0x4BB6), ..Sink::new() });
         assert_eq!(said(&mut sink, OPU0, control), Standing::BadCheck, "{control:02X?}");
         assert_eq!(sink, Sink::new());
     }
@@ -138,10 +141,10 @@ fn a_mended_word_is_remembered() {
     let (on, mut sink) = (OPU0.with_mending(), Sink::new());
     let answer = Taken { standing: Standing::Waiting, handed: 0, mended: true };
     assert_eq!(taken(&mut sink, on, [0x4B, 0xB4, 0x38]), answer);
-    assert_eq!(sink, Sink { count: None, word: Some(0x4BB6) });
+    assert_eq!(sink, Sink { count: None, word: Some(0x4BB6), ..Sink::new() });
     let answer = Taken { standing: Standing::Paired(14409), handed: 0, mended: true };
     assert_eq!(taken(&mut sink, on, [0x4B, 0x8A, 0x18]), answer);
-    assert_eq!(sink, Sink { count: Some(14409), word: Some(0x4B8A) });
+    assert_eq!(sink, Sink { count: Some(14409), word: Some(0x4B8A), ..Sink::new() });
 }
 
 /// Two wrong bits are BADCHECK with mending on as well. Three may be mended to a false word, and
@@ -150,7 +153,7 @@ fn a_mended_word_is_remembered() {
 fn more_than_one_wrong_bit_of_a_word() {
     let on = OPU0.with_mending();
     for control in [[0x8B, 0xB6, 0x38], [0x4B, 0xB5, 0x38], [0xCB, 0xB6, 0x39]] {
-        let mut sink = Sink { count: Some(14407), word: Some(0x4BB6) };
+        let mut sink = Sink { count: Some(14407), word: Some(0x4BB6), ..Sink::new() };
         assert_eq!(said(&mut sink, on, control), Standing::BadCheck);
         assert_eq!(sink, Sink::new());
     }
@@ -171,7 +174,8 @@ fn mended_words_outside_and_whole() {
     assert_eq!(said(&mut Sink::new(), EIGHT.with_mending(), [0; 3]), Standing::Read(0));
 }
 
-/// The settings keep their patterns with mending on, and mending with other patterns.
+/// The settings keep their patterns with mending on, and mending with other patterns; and both with
+/// the type check on, which keeps them.
 #[test]
 fn settings_with_both() {
     let patterns = Patterns { plus1: 0, minus1: 0, plus2: 1, minus2: 1 };
@@ -179,6 +183,10 @@ fn settings_with_both() {
     assert_eq!(both, OPU0.with_mending().with_patterns(patterns));
     assert_eq!(both, Settings { patterns: Some(patterns), mending: true, ..OPU0 });
     assert!(!OPU0.mending && !OPU0.with_patterns(patterns).mending);
+    let all = both.with_type_check();
+    assert_eq!(all, OPU0.with_type_check().with_mending().with_patterns(patterns));
+    assert_eq!(all, Settings { type_check: true, ..both });
+    assert!(!OPU0.type_check && !both.type_check);
     let mut sink = Sink::new();
     assert_eq!(said(&mut sink, both, [0xE1, 0x1E, 0x74]), Standing::Waiting);
     let answer = Taken { standing: Standing::Paired(14409), handed: 0, mended: true };
@@ -194,7 +202,7 @@ fn a_new_sink_pairs_two_words_of_given_patterns() {
     let mut sink = Sink::new();
     assert_eq!(said(&mut sink, settings, [0xE1, 0x1E, 0x74]), Standing::Waiting);
     assert_eq!(said(&mut sink, settings, [0xE1, 0x22, 0x55]), Standing::Paired(14409));
-    assert_eq!(sink, Sink { count: Some(14409), word: Some(0xE122) });
+    assert_eq!(sink, Sink { count: Some(14409), word: Some(0xE122), ..Sink::new() });
 }
 
 /// Given patterns that are those of the standard change nothing.
@@ -206,7 +214,7 @@ fn the_standards_patterns_as_given_ones() {
     {
         let control = announced(OPU0, old, next);
         assert_eq!(announced(opu0_with(four), old, next), control);
-        let mut sink = Sink { count: Some(old), word: None };
+        let mut sink = Sink { count: Some(old), ..Sink::new() };
         assert_eq!(said(&mut sink, opu0_with(four), control).count(), Some(next));
     }
 }
@@ -221,7 +229,7 @@ fn refused(settings: Settings) -> [Option<u32>; 4] {
         Source::new(settings, 14407, 0).err(),
         source.call(settings, 14407, &client, &mut frame).err(),
         Keeper::new(1296).call(settings, 18671875, 1296).err(),
-        Sink::new().call(settings, &frame, &mut out, 8, &mut tallies).err(),
+        Sink::new().call(settings, ANY, &frame, &mut out, 8, &mut tallies).err(),
     ]
     .map(|refusal| refusal.map(Refusal::number))
 }
@@ -262,7 +270,7 @@ fn broken_patterns_are_judged_last() {
     let mut source = Source { count: 14407, multiframe: 0, payload_type: 0 };
     let (mut frame, mut out, mut tallies) = (vec![0xEE; 15240], vec![0xEE; 14409], Tallies::new());
     let mut sink = Sink::new();
-    let refusal = sink.call(broken, &frame, &mut out, 0, &mut tallies).unwrap_err();
+    let refusal = sink.call(broken, ANY, &frame, &mut out, 0, &mut tallies).unwrap_err();
     assert_eq!((refusal.number(), refusal.name()), (9, "space"));
     let refusal = source.call(broken, 14411, &[0; 14407], &mut frame).unwrap_err();
     assert_eq!((refusal.number(), refusal.name()), (6, "count"));
@@ -272,11 +280,11 @@ fn broken_patterns_are_judged_last() {
 
     // The port comes before it and after the output buffer.
     out.push(0xEE);
-    let refusal = sink.call(broken, &frame, &mut out, 0, &mut tallies).unwrap_err();
+    let refusal = sink.call(broken, ANY, &frame, &mut out, 0, &mut tallies).unwrap_err();
     assert_eq!((refusal.number(), refusal.name()), (10, "port"));
 
     // Alone it is the answer, and nothing is changed.
-    let refusal = sink.call(broken, &frame, &mut out, 8, &mut tallies).unwrap_err();
+    let refusal = sink.call(broken, ANY, &frame, &mut out, 8, &mut tallies).unwrap_err();
     assert_eq!((refusal, refusal.number(), refusal.name()), (Refusal::Patterns, 14, "patterns"));
     assert_eq!(source.call(broken, 14407, &[0; 14407], &mut frame), Err(Refusal::Patterns));
     assert_eq!(source, Source { count: 14407, multiframe: 0, payload_type: 0 });
@@ -329,7 +337,7 @@ fn the_largest_grid() {
         assert_eq!(source.call(settings, 14405, &client, &mut frame).err(), refusal);
         assert_eq!(Keeper::new(1296).call(settings, 18671875, 1296).err(), refusal);
         assert_eq!(
-            Sink::new().call(settings, &frame, &mut out, 1, &mut Tallies::new()).err(),
+            Sink::new().call(settings, ANY, &frame, &mut out, 1, &mut Tallies::new()).err(),
             refusal
         );
     }
@@ -340,7 +348,8 @@ fn the_smallest_output_buffer() {
     for settings in [OPU0, WIDE, EIGHT] {
         let frame = vec![0; 4 * settings.k as usize + 8];
         let (mut out, mut tallies) = (vec![0; settings.hi as usize], Tallies::new());
-        let mut call = |out: &mut [u8]| Sink::new().call(settings, &frame, out, 1, &mut tallies);
+        let mut call =
+            |out: &mut [u8]| Sink::new().call(settings, ANY, &frame, out, 1, &mut tallies);
         assert!(call(&mut out).is_ok());
         assert_eq!(call(&mut out[1..]).err(), Some(Refusal::Space));
         assert_eq!(tallies.total().frames, 1);
@@ -350,7 +359,7 @@ fn the_smallest_output_buffer() {
 #[test]
 fn a_frame_one_byte_short() {
     let (mut frame, mut out, mut tallies) = (vec![0xEE; 15239], vec![0xEE; 14410], Tallies::new());
-    let refusal = Sink::new().call(OPU0, &frame, &mut out, 1, &mut tallies).unwrap_err();
+    let refusal = Sink::new().call(OPU0, ANY, &frame, &mut out, 1, &mut tallies).unwrap_err();
     assert_eq!((refusal, refusal.number(), refusal.name()), (Refusal::Frame, 8, "frame"));
     let mut source = Source::new(OPU0, 14407, 0x07).unwrap();
     let refusal = source.call(OPU0, 14407, &[0; 14407], &mut frame).unwrap_err();
@@ -375,8 +384,8 @@ fn ports_of_a_card() {
     ];
     for (port, count, [jc1, jc2, jc3], (frames, bad, bytes)) in calls {
         let frame = [0, jc1, 1, 2, 0, jc2, 3, 4, 0, jc3, 5, 6, 0, 0, 7, 8];
-        let mut sink = Sink { count: Some(count), word: None };
-        sink.call(EIGHT, &frame, &mut [0; 8], port, &mut tallies).unwrap();
+        let mut sink = Sink { count: Some(count), ..Sink::new() };
+        sink.call(EIGHT, ANY, &frame, &mut [0; 8], port, &mut tallies).unwrap();
         wanted.port[port as usize - 1] = Tally { frames, bad, bytes };
         assert_eq!(tallies, wanted);
     }
@@ -386,9 +395,9 @@ fn ports_of_a_card() {
 
     // No card has a port 0 or 9.
     for port in [0, PORTS + 1] {
-        let mut sink = Sink { count: Some(3), word: None };
+        let mut sink = Sink { count: Some(3), ..Sink::new() };
         let mut out = [0xEE; 8];
-        let refusal = sink.call(EIGHT, &[0; 16], &mut out, port, &mut tallies).unwrap_err();
+        let refusal = sink.call(EIGHT, ANY, &[0; 16], &mut out, port, &mut tallies).unwrap_err();
         assert_eq!((refusal, refusal.number(), refusal.name()), (Refusal::Port, 10, "port"));
         assert_eq!((sink.count, out, tallies), (Some(3), [0xEE; 8], wanted));
     }
@@ -402,12 +411,185 @@ fn the_largest_numbers_of_a_card() {
     let near = Tally { frames: most, bad: most - 1, bytes: most - 7 };
     let mut tallies = Tallies { port: [full; 8] };
     tallies.port[4 - 1] = near;
-    let mut sink = Sink { count: Some(8), word: None };
-    sink.call(EIGHT, &[0xFF; 16], &mut [0; 8], 4, &mut tallies).unwrap();
+    let mut sink = Sink { count: Some(8), ..Sink::new() };
+    sink.call(EIGHT, ANY, &[0xFF; 16], &mut [0; 8], 4, &mut tallies).unwrap();
     assert_eq!(tallies, Tallies { port: [full; 8] });
     let eight = 34_359_738_360;
     assert_eq!(tallies.total(), Total { frames: eight, bad: eight, bytes: eight });
     assert_eq!((Tallies::new(), Tallies::new().total()), Default::default());
+}
+
+/// A frame of 16 bytes at the count 4, which stays, with this PSI byte; its client bytes are 01 to
+/// 04.
+fn at_four(psi: u8) -> [u8; 16] {
+    let [jc1, jc2, jc3] = announced(EIGHT, 4, 4);
+    [0, jc1, 0, 1, 0, jc2, 0, 2, 0, jc3, 0, 3, psi, 0, 0, 4]
+}
+
+/// A sink that holds the count 4 and expects type 07 takes frames, in this order: the number that
+/// the call is told, the frame's PSI byte, how many bytes it hands out, the type that is accepted
+/// after it, and what was seen.
+fn takes_types(sink: &mut Sink, calls: &[(u32, u8, u32, Option<u8>, Seen)]) {
+    for (at, (multiframe, psi, handed, accepted, seen)) in (1..).zip(calls) {
+        let expected = Expected { multiframe: *multiframe, payload_type: 0x07 };
+        let (mut out, mut tallies) = ([0xEE; 8], Tallies::new());
+        let on = EIGHT.with_type_check();
+        let taken = sink.call(on, expected, &at_four(*psi), &mut out, 3, &mut tallies);
+        let answer = Taken { standing: Standing::Read(4), handed: *handed, mended: false };
+        assert_eq!(taken, Ok(answer), "call {at}");
+        let after = Sink { count: Some(4), word: None, accepted: *accepted, seen: *seen };
+        assert_eq!(*sink, after, "call {at}");
+        let bytes = [1, 2, 3, 4, 0xEE, 0xEE, 0xEE, 0xEE];
+        assert_eq!(out, if *handed == 0 { [0xEE; 8] } else { bytes }, "call {at}");
+        assert_eq!(tallies.of(3), Some(Tally { frames: 1, bad: 0, bytes: *handed }), "call {at}");
+    }
+}
+
+/// The same type in three frames numbered 0 running is accepted; until then the earlier one stands.
+/// A frame is judged after its own bytes: those of the third are kept back still, and where another
+/// type comes those of its third are handed out still.
+#[test]
+fn three_frames_with_one_type() {
+    use Seen::{Once, Twice};
+    let mut sink = Sink { count: Some(4), ..Sink::new() };
+    takes_types(
+        &mut sink,
+        &[
+            (0, 0x07, 0, None, Once(7)),
+            (1, 0x00, 0, None, Once(7)),
+            (255, 0x07, 0, None, Once(7)),
+            (0, 0x07, 0, None, Twice(7)),
+            (0, 0x07, 0, Some(7), Twice(7)),
+            (1, 0x00, 4, Some(7), Twice(7)),
+            (0, 0x05, 4, Some(7), Once(5)),
+            (0, 0x05, 4, Some(7), Twice(5)),
+            (0, 0x07, 4, Some(7), Once(7)),
+            (0, 0x05, 4, Some(7), Once(5)),
+            (0, 0x05, 4, Some(7), Twice(5)),
+            (0, 0x05, 4, Some(5), Twice(5)),
+            (1, 0x00, 0, Some(5), Twice(5)),
+        ],
+    );
+}
+
+/// A number is taken modulo 256, and type 00 is a type.
+#[test]
+fn numbers_and_types_at_their_ends() {
+    use Seen::{Never, Once, Twice};
+    let mut sink = Sink { count: Some(4), ..Sink::new() };
+    takes_types(
+        &mut sink,
+        &[
+            (255, 0x07, 0, None, Never),
+            (256, 0x00, 0, None, Once(0)),
+            (257, 0x07, 0, None, Once(0)),
+            (65536, 0x00, 0, None, Twice(0)),
+            (u32::MAX, 0x07, 0, None, Twice(0)),
+            (u32::MAX - 255, 0x00, 0, Some(0), Twice(0)),
+            (1 << 31, 0xFF, 0, Some(0), Once(255)),
+        ],
+    );
+    let mut sink = Sink { count: Some(4), accepted: Some(0), ..Sink::new() };
+    let expected = Expected { multiframe: 1, payload_type: 0x00 };
+    let (on, mut out) = (EIGHT.with_type_check(), [0; 8]);
+    let taken = sink.call(on, expected, &at_four(0), &mut out, 1, &mut Tallies::new()).unwrap();
+    assert_eq!((taken.handed, sink.accepted, sink.seen), (4, Some(0), Never));
+}
+
+/// From states that come from elsewhere: where the type was seen before fewer frames are enough.
+#[test]
+fn types_seen_before() {
+    use Seen::{Once, Twice};
+    let held = |accepted, seen| Sink { count: Some(4), word: None, accepted, seen };
+    takes_types(&mut held(None, Twice(7)), &[(0, 7, 0, Some(7), Twice(7))]);
+    let calls = [(0, 7, 0, Some(9), Twice(7)), (0, 7, 0, Some(7), Twice(7))];
+    takes_types(&mut held(Some(9), Once(7)), &calls);
+    let calls = [(0, 7, 4, Some(7), Once(7)), (0, 7, 4, Some(7), Twice(7))];
+    takes_types(&mut held(Some(7), Twice(9)), &calls);
+}
+
+/// With the type check off bytes are handed out whatever the type, and what is remembered of types
+/// stays, so that a run goes on behind.
+#[test]
+fn types_with_the_check_off() {
+    let (mut out, mut tallies) = ([0; 8], Tallies::new());
+    for (accepted, seen) in [(None, Seen::Never), (Some(5), Seen::Once(7)), (None, Seen::Twice(7))]
+    {
+        let mut sink = Sink { count: Some(4), word: None, accepted, seen };
+        let before = sink.clone();
+        let expected = Expected { multiframe: 0, payload_type: 0x07 };
+        for psi in [0x07, 0x05, 0x00] {
+            let taken = sink.call(EIGHT, expected, &at_four(psi), &mut out, 1, &mut tallies);
+            assert_eq!((taken.unwrap().handed, &sink), (4, &before));
+        }
+    }
+    let mut sink = Sink { count: Some(4), seen: Seen::Twice(7), ..Sink::new() };
+    sink.call(EIGHT, ANY, &at_four(0x05), &mut out, 1, &mut tallies).unwrap();
+    takes_types(&mut sink, &[(0, 0x07, 0, Some(7), Seen::Twice(7))]);
+}
+
+/// The PSI byte of a BADCHECK frame is judged, and that of a refused call is not.
+#[test]
+fn types_of_bad_and_refused_frames() {
+    let (on, mut tallies) = (EIGHT.with_type_check(), Tallies::new());
+    let expected = Expected { multiframe: 0, payload_type: 0x07 };
+    let mut bad = at_four(0x07);
+    bad[1] ^= 0x81;
+    let mut sink = Sink { count: Some(4), word: None, accepted: Some(7), seen: Seen::Never };
+    let mut call = |port: u32, frame: &[u8]| {
+        let answer = sink.call(on, expected, frame, &mut [0; 8], port, &mut tallies);
+        (answer.map(|taken| (taken.standing, taken.handed)), sink.seen, sink.accepted)
+    };
+    let (once, twice) = (Seen::Once(7), Seen::Twice(7));
+    assert_eq!(call(1, &bad), (Ok((Standing::BadCheck, 4)), once, Some(7)));
+    assert_eq!(call(0, &bad), (Err(Refusal::Port), once, Some(7)));
+    assert_eq!(call(9, &at_four(0x05)), (Err(Refusal::Port), once, Some(7)));
+    assert_eq!(call(1, &bad[1..]), (Err(Refusal::Frame), once, Some(7)));
+    assert_eq!(call(1, &bad), (Ok((Standing::BadCheck, 0)), twice, Some(7)));
+    bad[12] = 0x05;
+    for (seen, accepted) in [(Seen::Once(5), 7), (Seen::Twice(5), 7), (Seen::Twice(5), 5)] {
+        assert_eq!(call(1, &bad), (Ok((Standing::BadCheck, 0)), seen, Some(accepted)));
+    }
+    assert_eq!(tallies.of(1), Some(Tally { frames: 5, bad: 5, bytes: 4 }));
+}
+
+/// A source of one type and a new sink that expects this type or another, over 800 frames: when the
+/// sink held the count, when a type was accepted, and the first and the last frame that it handed
+/// out.
+fn cord(payload_type: u8, expected: u8) -> ([Option<u32>; 4], Tally) {
+    let on = EIGHT.with_type_check();
+    let mut source = Source::new(on, 5, payload_type).unwrap();
+    let (mut sink, mut tallies) = (Sink::new(), Tallies::new());
+    let (mut frame, mut out) = ([0; 16], [0; 8]);
+    let [mut held, mut accepted, mut first, mut last] = [None; 4];
+    for n in 1..=800 {
+        let (count, multiframe) = (source.count, source.multiframe);
+        source.call(on, 11 - count, &[0xC0; 6][..count as usize], &mut frame).unwrap();
+        let expected = Expected { multiframe, payload_type: expected };
+        let taken = sink.call(on, expected, &frame, &mut out, 8, &mut tallies).unwrap();
+        held = held.or(sink.count.map(|_| n));
+        accepted = accepted.or(sink.accepted.map(|_| n));
+        if taken.handed > 0 {
+            (first, last) = (first.or(Some(n)), Some(n));
+        }
+    }
+    assert_eq!(sink.accepted, Some(payload_type));
+    ([held, accepted, first, last], tallies.of(8).unwrap())
+}
+
+/// Frames 1, 257 and 513 are numbered 0. Where the cord is the right one bytes come from frame 514
+/// on, and where it is swapped not one.
+#[test]
+fn a_right_and_a_swapped_cord() {
+    let bytes = (514..=800).map(|n| if n % 2 == 1 { 5 } else { 6 }).sum();
+    let (events, tally) = cord(0x07, 0x07);
+    assert_eq!(events, [Some(2), Some(513), Some(514), Some(800)]);
+    assert_eq!(tally, Tally { frames: 800, bad: 0, bytes });
+    let (events, tally) = cord(0x05, 0x07);
+    assert_eq!(events, [Some(2), Some(513), None, None]);
+    assert_eq!(tally, Tally { frames: 800, bad: 0, bytes: 0 });
+    assert_eq!(cord(0x00, 0x00).0, [Some(2), Some(513), Some(514), Some(800)]);
+    assert_eq!(cord(0x00, 0x07).0, [Some(2), Some(513), None, None]);
 }
 
 /// The frames of the program sinkshow.
@@ -416,7 +598,7 @@ fn frames_of_sinkshow() {
     let first = [0, 0xAA, 0, 0, 0, 0xA6, 0x11, 0, 0, 0x0A, 0, 0x22, 0x07, 0, 0, 0x33];
     let second = [0, 0, 0, 0x44, 0, 0x10, 0, 0x55, 0, 0xD0, 0, 0x66, 0, 0, 0, 0x77];
     let (mut sink, mut tallies, mut out) = (Sink::new(), Tallies::new(), [0; 8]);
-    let mut call = |frame: &[u8]| sink.call(EIGHT, frame, &mut out, 1, &mut tallies);
+    let mut call = |frame: &[u8]| sink.call(EIGHT, ANY, frame, &mut out, 1, &mut tallies);
     let answer = |standing, handed| Ok(Taken { standing, handed, mended: false });
     assert_eq!(call(&first), answer(Standing::Waiting, 0));
     assert_eq!(call(&second), answer(Standing::Read(4), 0));

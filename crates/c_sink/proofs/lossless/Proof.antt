@@ -14,12 +14,18 @@ use Rattle.gmp_standing.specs.declared.Standing.the-variants.{Read, Tracked, Pa
 use Rattle.gmp_standing.specs.Standing.{Finding, standingMeaning}
 use Rattle.gmp_control.specs.declared.Remembered.{Remembered}
 use Rattle.gmp_control.specs.declared.Remembered.the-variants.{Word, Nothing}
+use Rattle.gmp_payload_type.specs.declared.AcceptedType.{AcceptedType}
+use Rattle.gmp_payload_type.specs.declared.AcceptedType.the-variants.{PayloadType, NoType}
+use Rattle.gmp_payload_type.specs.declared.Seen.{Seen}
+use Rattle.gmp_payload_type.specs.declared.Seen.the-variants.{Never, Once, Twice}
+use Rattle.gmp_payload_type.specs.declared.Types.{Types}
 use Rattle.card_tally.specs.declared.Tally.{Tally}
 use Rattle.card_tally.specs.declared.Tallies.{Tallies}
 use Rattle.card_tally.specs.Ports.{noTally}
 use Rattle.gmp_sink.specs.declared.SinkState.{SinkState}
+use Rattle.gmp_sink.specs.Sink.{withTypes}
 use Rattle.c_sink.specs.declared.SinkNumbers.{SinkNumbers}
-use Rattle.c_sink.specs.Numbers.{countFrom, countFlag, countValue, wordFrom, wordFlag, wordValue, stateFrom, stateNumbers, sinkReplyBy}
+use Rattle.c_sink.specs.Numbers.{countFrom, countFlag, countValue, wordFrom, wordFlag, wordValue, acceptedFrom, acceptedFlag, acceptedType, seenFrom, seenTimes, seenType, stateFrom, stateNumbers, sinkReplyBy}
 use Rattle.c_sink.specs.Lossless.{answerFrom, mendedFrom}
 use Rattle.c_sink.proofs.lossless.Statement.{statement}
 use Rattle.c_sink.proofs.lossless.Tie as tie
@@ -32,8 +38,22 @@ word-back : (w : Remembered) → wordFrom (wordFlag w) (wordValue w) ≡ w
 word-back (Word n) = refl
 word-back Nothing = refl
 
+accepted-back : (a : AcceptedType) → acceptedFrom (acceptedFlag a) (acceptedType a) ≡ a
+accepted-back (PayloadType k) = refl
+accepted-back NoType = refl
+
+seen-back : (n : Seen) → seenFrom (seenTimes n) (seenType n) ≡ n
+seen-back Never = refl
+seen-back (Once k) = refl
+seen-back (Twice k) = refl
+
+types-back : (t : Types) → stateFrom (stateNumbers (record { count = Unknown; word = Nothing; types = t })) .types ≡ t
+types-back t = ap₂ (λ (a : AcceptedType) (n : Seen). record { accepted = a; seen = n }) (accepted-back (t .accepted)) (seen-back (t .seen))
+
 state-back : (z : SinkState) → stateFrom (stateNumbers z) ≡ z
-state-back z = ap₂ (λ (c : Count) (w : Remembered). record { count = c; word = w }) (count-back (z .count)) (word-back (z .word))
+state-back z =
+    ap₂ (λ (c : Count) (w : Remembered). record { count = c; word = w; types = stateFrom (stateNumbers z) .types }) (count-back (z .count)) (word-back (z .word))
+    ∙ ap (withTypes z) (types-back (z .types))
 
 standing-back : (given : SinkNumbers) (x : Standing) (handed : ℕ) (b : Bool) (z : SinkState)
     → answerFrom (sinkReplyBy given (accepted (standingMeaning x)) handed b z) ≡ accepted (standingMeaning x)

@@ -10,6 +10,7 @@ use Rattle.gmp_settings.specs.declared.Settings.{Settings}
 use Rattle.refusals.specs.Table.{Answer}
 use Rattle.gmp_standing.specs.Standing.{Finding}
 use Rattle.card_tally.specs.declared.Tallies.{Tallies}
+use Rattle.gmp_payload_type.specs.declared.Expected.{Expected}
 use Rattle.gmp_sink.specs.declared.SinkState.{SinkState}
 use Rattle.gmp_sink.specs.declared.SinkResult.{SinkResult}
 use Rattle.gmp_sink.specs.Sink.{answerMeaning, sinkAnswer, sinkMended, sinkHanded}
@@ -22,13 +23,13 @@ use Rattle.c_sink.proofs.odu0_sink_call.Statement.{statement}
 use Rattle.c_sink.proofs.odu0_sink_call.Tie as tie
 
 -- a call that keeps its promise keeps this one, in numbers
-in-numbers : (s : Settings) (given : SinkNumbers) (frame out : List ℕ) (port : ℕ) (tallies : List ℕ) (r : SinkResult) (out-after : List ℕ) (y : Tallies)
-    → CallPromise s (stateFrom given) frame out port (talliesFrom tallies) r out-after y
-    → SinkCallPromise s given frame out port tallies (sinkReplyBy given (answerMeaning (r .answer)) (r .handed) (r .mended) (r .state)) out-after (talliesNumbers y)
-in-numbers s given frame out port tallies r out-after y p =
+in-numbers : (s : Settings) (given : SinkNumbers) (e : Expected) (frame out : List ℕ) (port : ℕ) (tallies : List ℕ) (r : SinkResult) (out-after : List ℕ) (y : Tallies)
+    → CallPromise s (stateFrom given) e frame out port (talliesFrom tallies) r out-after y
+    → SinkCallPromise s given e frame out port tallies (sinkReplyBy given (answerMeaning (r .answer)) (r .handed) (r .mended) (r .state)) out-after (talliesNumbers y)
+in-numbers s given e frame out port tallies r out-after y p =
     let z = stateFrom given in
     let answer = sinkAnswer s z frame out port in
-    let handed = length (sinkHanded s z frame out port) in
+    let handed = length (sinkHanded s z e frame out port) in
     record {
       reply =
           ap (λ (a : Answer Finding). sinkReplyBy given a (r .handed) (r .mended) (r .state)) (p .sink .answer)
@@ -40,17 +41,17 @@ in-numbers s given frame out port tallies r out-after y p =
     }
 
 -- the same of a call with the settings u, the state x and the tallies t that the numbers stand for
-of-numbers : (u s : Settings) (x : SinkState) (t : Tallies) (given : SinkNumbers) (frame out : List ℕ) (port : ℕ) (tallies : List ℕ) (r : SinkResult)
+of-numbers : (u s : Settings) (x : SinkState) (t : Tallies) (given : SinkNumbers) (e : Expected) (frame out : List ℕ) (port : ℕ) (tallies : List ℕ) (r : SinkResult)
     (out-after : List ℕ) (y : Tallies) (w : SinkReply) (tallies-after : List ℕ)
     → u ≡ s → x ≡ stateFrom given → t ≡ talliesFrom tallies → w ≡ sinkReplyBy given (answerMeaning (r .answer)) (r .handed) (r .mended) (r .state) → tallies-after ≡ talliesNumbers y
-    → CallPromise u x frame out port t r out-after y → SinkCallPromise s given frame out port tallies w out-after tallies-after
-of-numbers u s x t given frame out port tallies r out-after y w tallies-after e f h g k p =
-    subst⁻¹ (λ (v : SinkReply). SinkCallPromise s given frame out port tallies v out-after tallies-after) g
-    (subst⁻¹ (SinkCallPromise s given frame out port tallies _ out-after) k
-    (in-numbers s given frame out port tallies r out-after y
-    (subst (λ (a : Tallies). CallPromise s (stateFrom given) frame out port a r out-after y) h
-    (subst (λ (z : SinkState). CallPromise s z frame out port t r out-after y) f
-    (subst (λ (v : Settings). CallPromise v x frame out port t r out-after y) e p)))))
+    → CallPromise u x e frame out port t r out-after y → SinkCallPromise s given e frame out port tallies w out-after tallies-after
+of-numbers u s x t given e frame out port tallies r out-after y w tallies-after q f h g k p =
+    subst⁻¹ (λ (v : SinkReply). SinkCallPromise s given e frame out port tallies v out-after tallies-after) g
+    (subst⁻¹ (SinkCallPromise s given e frame out port tallies _ out-after) k
+    (in-numbers s given e frame out port tallies r out-after y
+    (subst (λ (a : Tallies). CallPromise s (stateFrom given) e frame out port a r out-after y) h
+    (subst (λ (z : SinkState). CallPromise s z e frame out port t r out-after y) f
+    (subst (λ (v : Settings). CallPromise v x e frame out port t r out-after y) q p)))))
 
 tallies-from-requires : tie.Need-tallies-from-requires
 tallies-from-requires c κs = search needs
@@ -76,7 +77,7 @@ same-length c = search needs
 returns : tie.Need-returns
 returns c =
     let g = c .before .before .before .before .before .before .before .before .before .before .before .before .before .args in
-    of-numbers _ (settingsFrom (g .settings)) _ _ (g .state) (g .frame .now) (g .out .now) (g .port) (g .tallies .now) _ _ _ _ _
+    of-numbers _ (settingsFrom (g .settings)) _ _ (g .state) (g .expected) (g .frame .now) (g .out .now) (g .port) (g .tallies .now) _ _ _ _ _
     (c .before .before .before .before .before .before .before .before .settings-from .ensures)
     (c .before .before .before .before .before .before .before .state-from .ensures)
     (c .before .before .before .before .before .before .before .before .before .tallies-from .ensures)

@@ -9,6 +9,7 @@ use Rattle.gmp_settings.specs.declared.Settings.{Settings}
 use Rattle.gmp_standing.specs.Standing.{Finding}
 use Rattle.card_tally.specs.declared.Tallies.{Tallies}
 use Rattle.card_tally.specs.Ports.{counted}
+use Rattle.gmp_payload_type.specs.declared.Expected.{Expected}
 use Rattle.gmp_sink.specs.declared.SinkState.{SinkState}
 use Rattle.gmp_sink.specs.Sink.{sinkAnswer, sinkMended, sinkHanded}
 use Rattle.gmp_sink.proofs.Laws.{mended-answers}
@@ -20,14 +21,14 @@ module _ (s : Settings) (z : SinkState) (frame out : List ℕ) (port : ℕ) (m :
   answers : (f : Finding) × (sinkAnswer s z frame out port ≡ accepted f) × (badFrames f ≡ 0)
   answers = let a = mended-answers s z frame out port m in (a .0, a .1, ap (λ (b : Bool). cond b 1 0) (a .2))
 
-  tallied : (y : Tallies) → talliesAfter s z frame out port y ≡ counted y port 1 0 (length (sinkHanded s z frame out port))
+  tallied : (e : Expected) (y : Tallies) → talliesAfter s z e frame out port y ≡ counted y port 1 0 (length (sinkHanded s z e frame out port))
   unfolding talliesAfter
-  tallied y =
-      let n : ℕ = length (sinkHanded s z frame out port) in
+  tallied e y =
+      let n : ℕ = length (sinkHanded s z e frame out port) in
       ap (λ (a : Answer Finding). talliesBy a port n y) (answers .1) ∙ ap (λ (bad : ℕ). counted y port 1 bad n) (answers .2)
 
 returns : tie.Need-returns
-returns c = record { standing = answers; tallies = λ s z frame out port y m. tallied s z frame out port m y }
+returns c = record { standing = answers; tallies = λ s z e frame out port y m. tallied s z frame out port m e y }
 
 pub mended-is-good-spec : {M : Type 1} → statement M
 mended-is-good-spec = tie.close (tie.spec returns)

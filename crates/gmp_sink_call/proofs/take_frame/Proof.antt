@@ -31,7 +31,7 @@ returns : tie.Need-returns
 returns c =
     let g = c .before .before .before .before .before .before .before .before .before .args in
     let none = sym (c .before .before .before .before .before .before .judge-call .ensures) ∙ ap verdictNumber (c .before .before .before .before .enum-told .given .1) in
-    promise-accepted (g .settings) (g .state) (g .frame .now) (g .out .now) (g .port) _ _ none (c .before .before .take-accepted .ensures)
+    promise-accepted (g .settings) (g .state) (g .expected) (g .frame .now) (g .out .now) (g .port) _ _ none (c .before .before .take-accepted .ensures)
 
 returns-2 : tie.Need-returns-2
 returns-2 c =
@@ -40,10 +40,10 @@ returns-2 c =
     let e = sym (c .before .before .before .judge-call .ensures) ∙ ap verdictNumber (c .before .verdict .given .1) in
     record {
       answer = ap refused (sym e) ∙ sym (answer-refused (g .settings) (g .state) (g .frame .now) (g .out .now) (g .port) not-zero);
-      state = sym (state-refused (g .settings) (g .state) (g .frame .now) (g .out .now) (g .port) not-zero);
-      handed-bytes = sym (ap length (handed-refused (g .settings) (g .state) (g .frame .now) (g .out .now) (g .port) not-zero));
+      state = sym (state-refused (g .settings) (g .state) (g .frame .now) (g .expected) (g .out .now) (g .port) not-zero);
+      handed-bytes = sym (ap length (handed-refused (g .settings) (g .state) (g .frame .now) (g .expected) (g .out .now) (g .port) not-zero));
       mended = sym (mended-refused (g .settings) (g .state) (g .frame .now) (g .out .now) (g .port) not-zero);
-      out-buffer = sym (out-refused (g .settings) (g .state) (g .frame .now) (g .out .now) (g .port) not-zero);
+      out-buffer = sym (out-refused (g .settings) (g .state) (g .frame .now) (g .expected) (g .out .now) (g .port) not-zero);
     }
 
 pub take-frame-spec : {M : Type 1} → statement M

@@ -10,16 +10,16 @@ use Rattle.odu0demap.proofs.demap_all.Statement.{statement}
 use Rattle.odu0demap.proofs.demap_all.Tie as tie
 
 abbrev Inv-loop : tie.InvT-loop
-Inv-loop mending demapper₀ frameNumber₀ demapper frameNumber = Along mending demapper frameNumber
+Inv-loop wanted demapper₀ frameNumber₀ demapper frameNumber = Along wanted demapper frameNumber
 
 abbrev μ-loop : tie.MeasureT-loop
-μ-loop mending demapper₀ frameNumber₀ demapper frameNumber = 18446744073709551615 - frameNumber
+μ-loop wanted demapper₀ frameNumber₀ demapper frameNumber = 18446744073709551615 - frameNumber
 
 new-demapper-requires : tie.Need-new-demapper-requires Inv-loop μ-loop
 new-demapper-requires c κs = search needs
 
 loop-holds : tie.Need-loop-holds Inv-loop μ-loop
-loop-holds c = record { all = all-start (c .before .args .mending) _ (c .new-demapper .ensures); few = omega arith }
+loop-holds c = record { all = all-start (c .before .args .wanted) _ (c .new-demapper .ensures); few = omega arith }
 
 add-frame-number : tie.Need-add-frame-number Inv-loop μ-loop
 add-frame-number c = search needs
@@ -42,9 +42,9 @@ loop-less c = search needs
 loop-again : tie.Need-loop-again Inv-loop μ-loop
 loop-again c =
     let l = c .before .before .before .before .before .loop in
-    let mending = c .before .before .before .before .before .before .before .args .mending in
-    let goes = subst (GoesOn mending (l .demapper)) (c .before .next .given .1) (c .before .before .before .take-next .ensures) in
-    record { all = all-next mending (l .demapper) _ (l .inv .all) goes; few = omega arith }
+    let wanted = c .before .before .before .before .before .before .before .args .wanted in
+    let goes = subst (GoesOn wanted (l .demapper)) (c .before .next .given .1) (c .before .before .before .take-next .ensures) in
+    record { all = all-next wanted (l .demapper) _ (l .inv .all) goes; few = omega arith }
 
 returns-2 : tie.Need-returns-2 Inv-loop μ-loop
 returns-2 c = c .before .loop .inv .all

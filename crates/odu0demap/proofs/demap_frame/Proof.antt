@@ -2,7 +2,7 @@
 use mathlib.Core.Path.{_∙_, ap}
 use borrow.Author.Needs.{needs}
 use Rattle.gmp_settings.specs.declared.Settings.{Settings}
-use Rattle.gmp_settings.specs.Settings.{withMending}
+use Rattle.gmp_settings.specs.Settings.{withMending, withTypeCheck}
 use Rattle.odu0demap.proofs.Laws.{not-refused, takes}
 use Rattle.odu0demap.proofs.demap_frame.Statement.{statement}
 use Rattle.odu0demap.proofs.demap_frame.Tie as tie
@@ -12,6 +12,9 @@ opu0-requires c κs = search needs
 
 with-mending-requires : tie.Need-with-mending-requires
 with-mending-requires c κs = search needs
+
+with-type-check-requires : tie.Need-with-type-check-requires
+with-type-check-requires c κs = search needs
 
 new-tallies-requires : tie.Need-new-tallies-requires
 new-tallies-requires c κs = search needs
@@ -36,34 +39,39 @@ same-length c = search needs
 
 returns : tie.Need-returns
 returns c =
-    let start = c .before .before .before .before .before .before .before .before .before .before .before .before .before .before .before .before in
+    let start = c .before .before .before .before .before .before .before .before .before .before .before .before .before .before .before .before .before in
     let g = start .args in
     let k = c .before .before .before .before .before .before .before .lend-call in
     let settings =
-    c .before .before .before .before .before .before .before .before .before .before .before .before .with-mending .ensures
-    ∙ ap (λ (s : Settings). withMending s (g .mending)) (c .before .before .before .before .before .before .before .before .before .before .before .before .before .opu0 .ensures) in
+    c .before .before .before .before .before .before .before .before .before .before .before .before .with-type-check .ensures
+    ∙ ap (λ (s : Settings). withTypeCheck s (g .wanted .«type_check»))
+    (c .before .before .before .before .before .before .before .before .before .before .before .before .before .with-mending .ensures ∙ ap (λ (s : Settings). withMending s (g .wanted .mending)) (c .before .before .before .before .before .before .before .before .before .before .before .before .before .before .opu0 .ensures)) in
     let promise = rw (settings, c .before .before .before .before .before .before .before .before .before .new-tallies .ensures) at (k .ensures) in
     absurd
-    (not-refused (g .mending) (g .demapper) (g .frame .now) (g .out .now) (start .pre .0) (start .pre .1) (k .result .result) _ (k .result .tallies)
+    (not-refused (g .wanted) (g .demapper) (g .frame .now) (g .out .now) (start .pre .0) (start .pre .1) (k .result .result) _ (k .result .tallies)
     promise _ (c .enum-told .given .1))
 
 standing-number-requires : tie.Need-standing-number-requires
 standing-number-requires c κs = search needs
+
+add-t26 : tie.Need-add-t26
+add-t26 c = search needs
 
 same-length-2 : tie.Need-same-length-2
 same-length-2 c = search needs
 
 returns-2 : tie.Need-returns-2
 returns-2 c =
-    let start = c .before .before .before .before .before .before .before .before .before .before .before .before .before .before .before .before .before .before in
+    let start = c .before .before .before .before .before .before .before .before .before .before .before .before .before .before .before .before .before .before .before .before in
     let g = start .args in
-    let k = c .before .before .before .before .before .before .before .before .before .lend-call in
+    let k = c .before .before .before .before .before .before .before .before .before .before .lend-call in
     let settings =
-    c .before .before .before .before .before .before .before .before .before .before .before .before .before .before .with-mending .ensures
-    ∙ ap (λ (s : Settings). withMending s (g .mending)) (c .before .before .before .before .before .before .before .before .before .before .before .before .before .before .before .opu0 .ensures) in
-    let promise = rw (settings, c .before .before .before .before .before .before .before .before .before .before .before .new-tallies .ensures) at (k .ensures) in
-    takes (g .mending) (g .demapper) (g .frame .now) (g .out .now) (start .pre .0) (start .pre .1) (k .result .result) _ (k .result .tallies) promise _
-    (c .before .before .answer .given .1) _ (c .standing-number .ensures) _ (c .before .before .before .before .before .tally-of .ensures)
+    c .before .before .before .before .before .before .before .before .before .before .before .before .before .before .before .with-type-check .ensures
+    ∙ ap (λ (s : Settings). withTypeCheck s (g .wanted .«type_check»))
+    (c .before .before .before .before .before .before .before .before .before .before .before .before .before .before .before .before .with-mending .ensures ∙ ap (λ (s : Settings). withMending s (g .wanted .mending)) (c .before .before .before .before .before .before .before .before .before .before .before .before .before .before .before .before .before .opu0 .ensures)) in
+    let promise = rw (settings, c .before .before .before .before .before .before .before .before .before .before .before .before .new-tallies .ensures) at (k .ensures) in
+    takes (g .wanted) (g .demapper) (g .frame .now) (g .out .now) (start .pre .0) (start .pre .1) (k .result .result) _ (k .result .tallies) promise _
+    (c .before .before .before .answer .given .1) _ (c .before .standing-number .ensures) _ (c .before .before .before .before .before .before .tally-of .ensures)
 
 pub demap-frame-spec : {M : Type 1} → statement M
 demap-frame-spec =
@@ -71,6 +79,7 @@ demap-frame-spec =
     (tie.spec
     opu0-requires
     with-mending-requires
+    with-type-check-requires
     new-tallies-requires
     element-set-from-before
     lend-call-requires
@@ -80,5 +89,6 @@ demap-frame-spec =
     same-length
     returns
     standing-number-requires
+    add-t26
     same-length-2
     returns-2)

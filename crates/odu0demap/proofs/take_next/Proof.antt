@@ -32,7 +32,7 @@ returns-2 c =
     let frame = c .before .before .before .before .before .gather .last .1 .0 in
     let whole : length frame ≡ 15240 = search needs in
     let g = c .before .before .before .before .before .before .before .args in
-    goes-on (g .mending) (g .demapper) frame (c .take-frame .result) whole (c .take-frame .ensures)
+    goes-on (g .wanted) (g .demapper) frame (c .take-frame .result) whole (c .take-frame .ensures)
 
 pub take-next-spec : {M : Type 1} → statement M
 take-next-spec =

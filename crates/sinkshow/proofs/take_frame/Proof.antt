@@ -29,7 +29,7 @@ returns c =
     let g = start .args in
     let t = c .before .before .before .before .take-frame in
     let promise = rw (c .before .before .before .before .before .before .before .new-settings .ensures) at (t .ensures) in
-    absurd (not-refused (g .run) (g .frame .now) _ (start .pre .0) refl (t .result) _ promise _ (c .enum-told .given .1))
+    absurd (not-refused (g .run) (g .frame .now) _ (start .pre .0) refl (t .result) _ _ promise _ (c .enum-told .given .1))
 
 add-frame-number : tie.Need-add-frame-number
 add-frame-number c = search needs
@@ -56,7 +56,7 @@ returns-2 c =
     let done = c .before .before .before .before .before .before .before .before .before .before .answer .given .1 in
     let numbers = c .before .before .before .before .before .before .put-numbers .ensures in
     let standing = c .before .before .put-standing .ensures in
-    shown (g .run) (g .frame .now) _ (start .pre .0) refl (t .result) _ promise _ done _ _ _ _ _ numbers standing
+    shown (g .run) (g .frame .now) _ (start .pre .0) refl (t .result) _ _ promise _ done _ _ _ _ _ numbers standing
 
 pub take-frame-spec : {M : Type 1} → statement M
 take-frame-spec =

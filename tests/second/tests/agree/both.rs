@@ -5,9 +5,9 @@
 //! A case draws its random numbers from the seed, the test's name and its own index, so it can be
 //! run again alone. SEED sets another seed, CASE runs one case only, RUNS multiplies the cases.
 
-use crate::given::any_tallies;
+use crate::given::{any_expected, any_tallies};
 use second::{
-    pattern, Card, Keeper, Random, Settings, Sink, Source, Standing, Taken, Tally, PORTS,
+    pattern, Card, Expected, Keeper, Random, Settings, Sink, Source, Standing, Taken, Tally, PORTS,
 };
 use std::fmt;
 use std::io::Write;
@@ -30,6 +30,12 @@ pub struct Done {
     pub standings: [u64; 6],
     /// Those of them that mended a word, by what they answered.
     pub mended: [u64; 6],
+    /// Those with the type check on after which another type was accepted.
+    pub types: u64,
+    /// Those with the type check on that handed out bytes.
+    pub let_through: u64,
+    /// Those that would have handed out bytes with the type check off.
+    pub kept_back: u64,
 }
 
 /// One case of a test, with what is needed to run it again.
@@ -40,6 +46,7 @@ pub struct Case {
     pub done: Done,
     test: &'static str,
     seed: u64,
+    told: Option<Expected>,
     last: Option<Call>,
 }
 
@@ -49,7 +56,15 @@ enum Call {
     Source(Settings, Source, u32, Vec<u8>, Vec<u8>),
     NewKeeper(u32),
     Keeper(Settings, Keeper, u32, u32),
-    Sink(Settings, Sink, Vec<u8>, Vec<u8>, u32, [Tally; 8]),
+    Sink {
+        settings: Settings,
+        state: Sink,
+        expected: Expected,
+        frame: Vec<u8>,
+        out: Vec<u8>,
+        port: u32,
+        tallies: [Tally; 8],
+    },
 }
 
 /// Runs a test's cases and says on standard error how many calls were compared.
@@ -60,8 +75,8 @@ pub fn cases(test: &'static str, cases: u64, mut run: impl FnMut(&mut Case)) -> 
         None => 0..cases * from_environment("RUNS").unwrap_or(1),
     };
     let began = Instant::now();
-    let mut case =
-        Case { random: Random::new(0), index: 0, done: Done::default(), test, seed, last: None };
+    let (random, done) = (Random::new(0), Done::default());
+    let mut case = Case { random, index: 0, done, test, seed, told: None, last: None };
     for index in indices.clone() {
         case.index = index;
         case.random = random_of(seed, test, index);
@@ -187,6 +202,13 @@ impl Case {
         ours
     }
 
+    /// What the next call of a sink is told of multiframe number and type. One that is told nothing
+    /// so is told anything.
+    pub fn told(&mut self, expected: Expected) -> &mut Case {
+        self.told = Some(expected);
+        self
+    }
+
     /// A sink's call on any port of a card whose other ports have any numbers: this tally is that
     /// of the port. So the tests that go by one tally go from port to port.
     pub fn sink(
@@ -216,16 +238,25 @@ impl Case {
         port: u32,
         card: &mut Card,
     ) -> Result<Taken, u32> {
-        let before = card.tallies();
-        self.last =
-            Some(Call::Sink(settings, state.clone(), frame.to_vec(), out.to_vec(), port, before));
+        let expected = self.told.take().unwrap_or_else(|| any_expected(&mut self.random));
+        let (given, tallies) = (state.clone(), card.tallies());
+        self.last = Some(Call::Sink {
+            settings,
+            state: given.clone(),
+            expected,
+            frame: frame.to_vec(),
+            out: out.to_vec(),
+            port,
+            tallies,
+        });
         let mut their_frame = Lent::new(self.index, frame);
         let mut their_out = Lent::new(self.index, out);
-        let mut their_state = odu0::Sink { count: state.count, word: state.word };
-        let mut their_card = LentCard::new(before);
+        let mut their_state = sink_of(state);
+        let mut their_card = LentCard::new(tallies);
         let theirs = their_state
             .call(
                 settings_of(settings),
+                expected_of(expected),
                 their_frame.lent(),
                 their_out.lent(),
                 port,
@@ -233,17 +264,20 @@ impl Case {
             )
             .map(taken_of)
             .map_err(odu0::Refusal::number);
-        let ours = state.call(settings, frame, out, port, card);
+        let ours = state.call(settings, expected, frame, out, port, card);
         assert_eq!(theirs, ours, "the answer: library, second");
-        let their_state = Sink { count: their_state.count, word: their_state.word };
-        assert_eq!(their_state, *state, "the state: library, second");
+        assert_eq!(their_state, sink_of(state), "the state: library, second");
         their_card.must_be(card);
         their_frame.must_be("frame", frame);
         their_out.must_be("output", out);
         self.count_frame(settings, ours.err());
-        if let Ok(Taken { standing, mended, .. }) = ours {
+        if let Ok(Taken { standing, handed, mended }) = ours {
             self.done.standings[place(standing)] += 1;
             self.done.mended[place(standing)] += u64::from(mended);
+            let known = given.count.filter(|count| settings.holds(*count)).unwrap_or(0);
+            self.done.types += u64::from(given.types.accepted() != state.types.accepted());
+            self.done.let_through += u64::from(settings.type_check && handed > 0);
+            self.done.kept_back += u64::from(handed < known);
         }
         ours
     }
@@ -251,7 +285,7 @@ impl Case {
     pub fn count_frame(&mut self, settings: Settings, refusal: Option<u32>) {
         match refusal {
             Some(number) => self.done.refused[number as usize] += 1,
-            None if Settings { patterns: None, mending: false, ..settings } == Settings::OPU0 => {
+            None if (settings.k, settings.lo, settings.hi) == (3808, 14405, 14410) => {
                 self.done.opu0 += 1
             }
             None if settings.k > 40 => self.done.large += 1,
@@ -272,12 +306,31 @@ pub fn settings_of(settings: Settings) -> odu0::Settings {
     if settings.mending {
         same = same.with_mending();
     }
+    if settings.type_check {
+        same = same.with_type_check();
+    }
     if settings.patterns.is_none() {
         return same;
     }
     let [plus1, minus1, plus2, minus2] = [1, -1, 2, -2].map(|change| pattern(settings, change));
     same.with_patterns(odu0::Patterns { plus1, minus1, plus2, minus2 })
 }
+
+pub fn expected_of(expected: Expected) -> odu0::Expected {
+    odu0::Expected { multiframe: expected.multiframe, payload_type: expected.payload_type }
+}
+
+pub fn sink_of(sink: &Sink) -> odu0::Sink {
+    let seen = match sink.types.run() {
+        [] => odu0::Seen::Never,
+        [once] => odu0::Seen::Once(*once),
+        [twice, ..] => odu0::Seen::Twice(*twice),
+    };
+    odu0::Sink { count: sink.count, word: sink.word, accepted: sink.types.accepted(), seen }
+}
+
+/// What a sink that knows nothing of types is told where the type check is off.
+pub const ANY: odu0::Expected = odu0::Expected { multiframe: 0, payload_type: 0 };
 
 fn back(state: odu0::Source) -> Source {
     Source { count: state.count, multiframe: state.multiframe, payload_type: state.payload_type }
@@ -397,8 +450,9 @@ impl fmt::Display for Call {
             Call::Keeper(settings, state, p, q) => {
                 write!(f, "  a keeper call; {settings:?}; {state:?}; p {p}, q {q}")
             }
-            Call::Sink(settings, state, frame, out, port, tallies) => {
-                writeln!(f, "  a sink call; {settings:?}; {state:?}; port {port}; {tallies:?}")?;
+            Call::Sink { settings, state, expected, frame, out, port, tallies } => {
+                writeln!(f, "  a sink call; {settings:?}; {state:?}; {expected:?}; port {port}")?;
+                writeln!(f, "  {tallies:?}")?;
                 writeln!(f, "  frame, {} bytes: {}", frame.len(), hex(frame))?;
                 write!(f, "  output before, {} bytes: {}", out.len(), hex(out))
             }

@@ -2,7 +2,7 @@
 
 use crate::both::{all_cases, cases, Case};
 use crate::given::*;
-use second::{check, Card, Keeper, Settings, Sink, Source, Tally};
+use second::{check, Card, Expected, Keeper, Settings, Sink, Source, Tally, Types};
 
 #[test]
 fn random_sink_calls() {
@@ -14,6 +14,7 @@ fn random_sink_calls() {
         let mut frame = random.bytes(length);
         let control = any_control(random, settings, &state);
         put_control(settings, &mut frame, control);
+        put_psi(settings, &mut frame, any_type(random));
         let more = if random.once_in(2) { random.below(20) } else { 0 };
         let length = any_length(random, u64::from(settings.hi) + more);
         let mut out = random.bytes(length);
@@ -28,6 +29,8 @@ fn random_sink_calls() {
             "{:?}",
             done.mended
         );
+        let types = [done.types, done.let_through, done.kept_back];
+        assert!(types.iter().all(|times| *times > 10_000), "{types:?}");
         assert!(
             [1, 2, 8, 9, 10, 14].iter().all(|number| done.refused[*number] > 1000),
             "{:?}",
@@ -127,13 +130,15 @@ fn buffers_of_every_length() {
 /// A sink's and a source's call with buffers of these lengths.
 fn lend(case: &mut Case, settings: Settings, frame: usize, other: usize) {
     let random = &mut case.random;
-    let settings = Settings { mending: random.once_in(2), ..settings };
+    let (mending, type_check) = (random.once_in(2), random.once_in(2));
+    let settings = Settings { mending, type_check, ..settings };
     let count = count_inside(random, settings);
     let (mut frame, mut other) = (random.bytes(frame), random.bytes(other));
     let mut source = Source { count, multiframe: 0, payload_type: 0xFF };
     let next = next_count(random, settings, count);
     let _ = case.source(settings, &mut source, next, &other, &mut frame);
-    let mut sink = Sink { count: Some(count), word: None };
+    let types = any_types(&mut case.random);
+    let mut sink = Sink { count: Some(count), word: None, types };
     let _ = case.sink(settings, &mut sink, &frame, &mut other, &mut Tally::default());
 }
 
@@ -143,7 +148,8 @@ fn tallies_near_the_largest() {
         let off = Settings::new(2, 0, 8);
         // Zeros, which are whole; ones; and zeros with one wrong bit and with two.
         let controls = [[0; 3], [0xFF; 3], [0, 0, 1], [0, 0, 3]];
-        let all = controls.map(|control| [(off, control), (off.with_mending(), control)]).concat();
+        let some = [off, off.with_mending(), off.with_type_check()];
+        let all = controls.map(|control| some.map(|settings| (settings, control))).concat();
         for left in (0..=10).chain([u32::MAX]) {
             for count in 0..=8 {
                 for &(settings, control) in &all {
@@ -151,9 +157,11 @@ fn tallies_near_the_largest() {
                     put_control(settings, &mut frame, control);
                     let value = u32::MAX - left;
                     let mut tally = Tally { frames: value, bad: value, bytes: value };
-                    let mut state = Sink { count: Some(count), word: None };
+                    let types = Types::with(Some(case.random.of(&[5, 7])), &[]);
+                    let mut state = Sink { count: Some(count), word: None, types };
                     let mut out = case.random.bytes(8);
-                    for _ in 0..3 {
+                    for multiframe in 1..=3 {
+                        case.told(Expected { multiframe, payload_type: 7 });
                         let _ = case.sink(settings, &mut state, &frame, &mut out, &mut tally);
                     }
                 }

@@ -1,7 +1,9 @@
 //! What the calls are given: random arguments, most of them near what is accepted or expected, and
 //! hostile ones.
 
-use second::{check, pattern, possible, word, Random, Settings, Sink, Tally, PORTS};
+use second::{
+    check, pattern, possible, word, Expected, Random, Settings, Sink, Tally, Types, PORTS,
+};
 
 /// The widest window.
 pub const WIDE: Settings = Settings::new(3808, 0, 15232);
@@ -46,9 +48,11 @@ pub fn broken(random: &mut Random) -> [u32; 4] {
     four
 }
 
-/// The settings, half the time with patterns that keep the rule, and half the time with mending on.
+/// The settings, half the time with patterns that keep the rule, half the time with mending on and
+/// half the time with the type check on.
 pub fn varied(random: &mut Random, settings: Settings) -> Settings {
-    let settings = Settings { mending: random.once_in(2), ..settings };
+    let (mending, type_check) = (random.once_in(2), random.once_in(2));
+    let settings = Settings { mending, type_check, ..settings };
     if random.once_in(2) {
         settings.with_patterns(kept(random))
     } else {
@@ -161,7 +165,42 @@ pub fn any_sink(random: &mut Random, settings: Settings) -> Sink {
     Sink {
         count: (!random.once_in(4)).then_some(count),
         word: (!random.once_in(3)).then_some(word),
+        types: any_types(random),
     }
+}
+
+/// A payload type; a few come often, so that they meet.
+pub fn any_type(random: &mut Random) -> u8 {
+    let any = random.u32() as u8;
+    random.of(&[0, 0, 7, 7, 7, 7, 5, 255, any])
+}
+
+/// What a sink may know of types: a type that was accepted, or none, and a type seen never, once,
+/// twice or more often, at times behind others.
+pub fn any_types(random: &mut Random) -> Types {
+    let began = (!random.once_in(3)).then(|| any_type(random));
+    let mut judged = vec![any_type(random); random.from_to(0, 2) as usize];
+    if random.once_in(4) {
+        judged = (0..random.from_to(0, 8)).map(|_| random.of(&[0, 7])).chain(judged).collect();
+    }
+    Types::with(began, &judged)
+}
+
+/// A multiframe number: mostly one that is 0 modulo 256, or near such a one.
+pub fn any_multiframe(random: &mut Random) -> u32 {
+    let any = random.u32();
+    match random.below(6) {
+        0 | 1 => 0,
+        2 => 256 << random.below(24),
+        3 => any & !255,
+        4 => random.of(&[1, 128, 254, 255, 257, 511, 513, 65535, 1 << 31 | 1, u32::MAX]),
+        _ => any,
+    }
+}
+
+/// What a call may be told.
+pub fn any_expected(random: &mut Random) -> Expected {
+    Expected { multiframe: any_multiframe(random), payload_type: any_type(random) }
 }
 
 pub fn any_tally(random: &mut Random) -> Tally {
@@ -263,6 +302,20 @@ pub fn put_control(settings: Settings, frame: &mut [u8], control: [u8; 3]) {
     }
 }
 
+/// Where the PSI byte stands, the first of row 4.
+pub fn psi_byte(settings: Settings) -> usize {
+    3 * (settings.k as usize + 2)
+}
+
+/// Writes the PSI byte, if the frame has it.
+pub fn put_psi(settings: Settings, frame: &mut [u8], psi: u8) {
+    if settings.k < 5000 {
+        if let Some(place) = frame.get_mut(psi_byte(settings)) {
+            *place = psi;
+        }
+    }
+}
+
 /// The right length, or what 32 bits would make of it, or one near it.
 pub fn any_length(random: &mut Random, right: u64) -> usize {
     let right = [right, right % (1 << 32), 8].into_iter().find(|length| *length <= 16000).unwrap();
@@ -308,5 +361,6 @@ pub fn hostile_sink(random: &mut Random, settings: Settings, word: u32) -> Sink 
     Sink {
         count: random.once_in(2).then_some(count),
         word: (!random.once_in(4)).then_some(second::word(settings, before, announced)),
+        types: any_types(random),
     }
 }

@@ -1,12 +1,14 @@
 //! One wrong control bit mended (02, P1): "a remainder equal to that of one wrong bit among the 24
 //! has that bit flipped before reading". agree/words.rs reads every word of 24 bits so.
 
-use crate::both::{cases, settings_of, Case, Lent};
-use crate::fields::fields_of;
+use crate::both::{cases, settings_of, Case, ANY};
+use crate::fields::{fields_of, reply, BEFORE, NEW};
 use crate::given::*;
 use crate::runs::{off_the_card, source_run, watch, Written};
 use odu0::ffi;
-use second::{check, read, word, Keeper, Random, Settings, Sink, Source, Standing, Taken, Tally};
+use second::{
+    check, read, word, Expected, Keeper, Random, Settings, Sink, Source, Standing, Taken, Tally,
+};
 
 const EIGHT: Settings = Settings::new(2, 0, 8);
 
@@ -43,11 +45,12 @@ fn nexts(settings: Settings, old: u32) -> Vec<u32> {
 /// is false.
 fn sinks(random: &mut Random, settings: Settings, old: u32, this: u32) -> [Sink; 6] {
     let before = word(settings, if old == 0 { 1 } else { old - 1 }, old);
+    let types = any_types(random);
     [
         Sink::new(),
-        Sink { count: Some(old), word: None },
-        Sink { count: None, word: Some(before) },
-        Sink { count: Some(old), word: Some(before) },
+        Sink { count: Some(old), word: None, types: types.clone() },
+        Sink { count: None, word: Some(before), types: types.clone() },
+        Sink { count: Some(old), word: Some(before), types },
         any_sink(random, settings),
         hostile_sink(random, settings, this),
     ]
@@ -64,10 +67,13 @@ struct Outcome {
 
 const TALLY: Tally = Tally { frames: 30, bad: 20, bytes: 10 };
 
+/// What all these calls are told, so that two of them may be compared with the type check on too.
+const TOLD: Expected = Expected { multiframe: 0, payload_type: 7 };
+
 fn outcome(case: &mut Case, settings: Settings, state: &Sink, frame: &[u8]) -> Outcome {
     let (mut state, mut tally) = (state.clone(), TALLY);
     let mut out = vec![0x5A; settings.hi as usize + 1];
-    let taken = case.sink(settings, &mut state, frame, &mut out, &mut tally).unwrap();
+    let taken = case.told(TOLD).sink(settings, &mut state, frame, &mut out, &mut tally).unwrap();
     Outcome { taken, state, out, tally }
 }
 
@@ -78,11 +84,12 @@ impl Outcome {
         Outcome { taken: Taken { mended: true, ..self.taken }, ..self.clone() }
     }
 
-    /// And if they are not: the same bytes are handed out, but the count and the word are lost.
+    /// And if they are not: the same bytes are handed out and its type is judged, but the count and
+    /// the word are lost.
     fn bad(&self) -> Outcome {
         Outcome {
             taken: Taken { standing: Standing::BadCheck, ..self.taken },
-            state: Sink::new(),
+            state: Sink { types: self.state.types.clone(), ..Sink::new() },
             out: self.out.clone(),
             tally: Tally { bad: TALLY.bad + 1, ..self.tally },
         }
@@ -240,7 +247,12 @@ fn a_false_count_beyond_the_budget() {
 
 /// A frame as it arrives, and whether one control bit of it was turned over on the way, which
 /// happens once in so many times.
-fn arriving(random: &mut Random, settings: Settings, sent: &[u8], times: u64) -> (Vec<u8>, bool) {
+pub fn arriving(
+    random: &mut Random,
+    settings: Settings,
+    sent: &[u8],
+    times: u64,
+) -> (Vec<u8>, bool) {
     let (mut frame, wrong) = (sent.to_vec(), random.once_in(times));
     if wrong {
         let at = random.of(&control_bytes(settings));
@@ -250,9 +262,10 @@ fn arriving(random: &mut Random, settings: Settings, sent: &[u8], times: u64) ->
 }
 
 /// A sink that holds the source's count and reads frames in succession, each with at most one wrong
-/// control bit, keeps the count and hands out each load exactly. Without mending each wrong bit
-/// puts it back to hunting.
+/// control bit, keeps the count and, with the type check off, hands out each load exactly. Without
+/// mending each wrong bit puts it back to hunting.
 fn the_count_is_kept(case: &mut Case, settings: Settings, frames: usize) {
+    let settings = Settings { type_check: false, ..settings };
     let (off, on) = (Settings { mending: false, ..settings }, settings.with_mending());
     let written = source_run(case, settings, frames);
     // Frames are numbered from 1: frame n is written[n - 1].
@@ -288,7 +301,8 @@ fn the_count_is_kept(case: &mut Case, settings: Settings, frames: usize) {
         assert!(!taken.mended);
         assert_eq!(taken.standing == Standing::BadCheck, wrong, "frame {n}, from frame {m}");
         if wrong {
-            assert_eq!(hunting, Sink::new(), "after frame {n}, from frame {m}");
+            let left = Sink { types: sink.types.clone(), ..Sink::new() };
+            assert_eq!(hunting, left, "after frame {n}, from frame {m}");
         }
     }
 }
@@ -360,28 +374,6 @@ fn a_wrong_bit_in_every_frame() {
     });
 }
 
-/// What each port's tally is before.
-const BEFORE: odu0::Tally = odu0::Tally { frames: 3, bad: 2, bytes: 1 };
-
-/// The sink's reply as C gives it, with the bytes and the tallies that it leaves.
-fn reply(
-    settings: ffi::Settings,
-    state: ffi::Sink,
-    frame: &[u8],
-    out: usize,
-    port: u32,
-) -> (ffi::SinkReply, Vec<u8>, [odu0::Tally; 8]) {
-    let mut out = Lent::new(0, &vec![0x22; out]);
-    let mut tallies = odu0::Tallies { port: [BEFORE; 8] };
-    let (at, length) = (out.lent().as_mut_ptr(), out.lent().len());
-    let (from, bytes) = (frame.as_ptr(), frame.len());
-    // SAFETY: each pointer is that of a live buffer, before its length, and none overlap.
-    let reply = unsafe {
-        ffi::odu0_sink_call(settings, state, from, bytes, at, length, port, &mut tallies)
-    };
-    (reply, out.lent().to_vec(), tallies.port)
-}
-
 /// A wrong bit in each of JC1, JC2 and JC3, with 0 and with other values of the field. No call
 /// refuses one.
 #[test]
@@ -389,13 +381,13 @@ fn values_of_mending() {
     let mut settings = fields_of(Settings::OPU0);
     assert_eq!(settings.mending, 0);
     assert_eq!(fields_of(Settings::OPU0.with_mending()), ffi::Settings { mending: 1, ..settings });
-    let state = ffi::Sink { known: 1, count: 14407, remembered: 0, word: 0 };
+    let state = ffi::Sink { known: 1, count: 14407, ..NEW };
     let mut frame = vec![0; 15240];
     for control in [[0x0B, 0xB6, 0x38], [0x4B, 0xB7, 0x38], [0x4B, 0xB6, 0xB8]] {
         put_control(Settings::OPU0, &mut frame, control);
         for mending in [0, 1, 2, 3, 255, 256, 65536, 1 << 31, u32::MAX] {
             settings.mending = mending;
-            let (reply, _, tallies) = reply(settings, state, &frame, 14410, 1);
+            let (reply, _, tallies) = reply(settings, state, ANY, &frame, 14410, 1);
             let (standing, found, count, word) =
                 if mending == 0 { (4, 0, 0, None) } else { (2, 1, 14408, Some(0x4BB6)) };
             assert_eq!((reply.refusal, reply.standing), (0, standing), "{mending}");
@@ -421,10 +413,10 @@ fn values_of_mending() {
 #[test]
 fn refused_calls_mend_nothing() {
     let right = fields_of(EIGHT.with_mending());
-    let state = ffi::Sink { known: 9, count: 4, remembered: 8, word: 0xFFFF_0002 };
+    let state = ffi::Sink { known: 9, count: 4, remembered: 8, word: 0xFFFF_0002, ..NEW };
     let mut frame = vec![0x77; 16];
     put_control(EIGHT, &mut frame, [0, 0x10, 0xD1]);
-    assert_eq!(reply(right, state, &frame, 8, 1).0.mended, 1);
+    assert_eq!(reply(right, state, ANY, &frame, 8, 1).0.mended, 1);
     let patterns = fields_of(EIGHT.with_mending().with_patterns([0, 0, 1, 3]));
     let calls = [
         (1, ffi::Settings { k: 0, ..right }, 16, 8, 1),
@@ -435,7 +427,7 @@ fn refused_calls_mend_nothing() {
         (14, patterns, 16, 8, 1),
     ];
     for (number, settings, frame_len, out_len, port) in calls {
-        let (reply, out, tallies) = reply(settings, state, &frame[..frame_len], out_len, port);
+        let (reply, out, tallies) = reply(settings, state, ANY, &frame[..frame_len], out_len, port);
         let nothing = ffi::SinkReply {
             refusal: number,
             standing: 0,
@@ -451,7 +443,7 @@ fn refused_calls_mend_nothing() {
     }
 }
 
-/// Source and rate keeper do not look at the setting, whatever they answer.
+/// Source and rate keeper look neither at mending nor at the type check, whatever they answer.
 #[test]
 fn only_the_sink_looks_at_it() {
     cases("only_the_sink_looks_at_it", 20_000, |case| {
@@ -463,9 +455,11 @@ fn only_the_sink_looks_at_it() {
             (any_length(random, u64::from(count)), any_length(random, settings.frame()));
         let client = random.bytes(client);
         let (q, remainder) = (random.from_to(0, 9), random.from_to(0, 9));
-        let [off, on] = [false, true].map(|mending| {
-            let settings = Settings { mending, ..settings };
-            assert_eq!(settings_of(settings).mending, mending);
+        let both = [(false, false), (true, false), (false, true), (true, true)];
+        let [off, others @ ..] = both.map(|(mending, type_check)| {
+            let settings = Settings { mending, type_check, ..settings };
+            let same = settings_of(settings);
+            assert_eq!((same.mending, same.type_check), (mending, type_check));
             let new = case.source_new(settings, count, 7);
             let mut source = Source { count, multiframe: 0, payload_type: 7 };
             let mut frame = vec![0xEE; length];
@@ -474,6 +468,6 @@ fn only_the_sink_looks_at_it() {
             let kept = case.keeper(settings, &mut keeper, count.wrapping_mul(q), q);
             (new, called, source, frame, kept, keeper)
         });
-        assert!(off == on, "{settings:?}");
+        assert!(others.iter().all(|on| *on == off), "{settings:?}");
     });
 }

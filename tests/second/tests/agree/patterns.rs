@@ -1,8 +1,8 @@
 //! Inversion patterns from the customer (02, P11): "four patterns of 14 bits for +1, −1, +2, −2,
 //! which take the place of document 01's".
 
-use crate::both::{cases, settings_of, Case, Lent};
-use crate::fields::{any_fields, fields_of};
+use crate::both::{cases, settings_of, Case, Lent, ANY};
+use crate::fields::{any_fields, fields_of, NEW};
 use crate::given::*;
 use crate::runs::{back_after_two_frames, no_false_count, rough_line};
 use odu0::ffi;
@@ -77,18 +77,19 @@ fn every_small_table_from_every_state() {
             let said = format!("{four:?}: {old}, {next}, {last}");
             for known in [None, Some(0), Some(1), Some(2), Some(3), Some(4)] {
                 for remembered in &words {
-                    let mut sink = odu0::Sink { count: known, word: *remembered };
+                    let word = *remembered;
+                    let mut sink = odu0::Sink { count: known, word, ..odu0::Sink::new() };
                     let mut out = [0xEE; 4];
                     let mut call = |old: usize, next: usize| {
                         let frame = &frames[old][next];
-                        sink.call(settings, frame, &mut out, 1, &mut tallies).unwrap();
+                        sink.call(settings, ANY, frame, &mut out, 1, &mut tallies).unwrap();
                         sink.count
                     };
                     call(old, next);
                     assert_eq!(call(next, last), Some(last as u32), "{said}");
                     out = [0xEE; 4];
                     let frame = &frames[last][old];
-                    let taken = sink.call(settings, frame, &mut out, 1, &mut tallies).unwrap();
+                    let taken = sink.call(settings, ANY, frame, &mut out, 1, &mut tallies).unwrap();
                     assert_eq!(
                         (taken.handed, sink.count),
                         (last as u32, Some(old as u32)),
@@ -121,8 +122,9 @@ fn every_word_of_opu0() {
                 let control = [(word >> 8) as u8, word as u8, check(word) as u8];
                 let said = format!("{four:?}: {old} to {next}");
                 assert_eq!(control_bytes(settings).map(|at| frame[at]), control, "{said}");
-                let mut sink = odu0::Sink { count: Some(old), word: None };
-                let taken = sink.call(settings_of(settings), &frame, &mut out, 1, &mut tallies);
+                let mut sink = odu0::Sink { count: Some(old), ..odu0::Sink::new() };
+                let taken =
+                    sink.call(settings_of(settings), ANY, &frame, &mut out, 1, &mut tallies);
                 let standing = match next.abs_diff(old) {
                     1 | 2 => odu0::Standing::Tracked(next),
                     _ => odu0::Standing::Read(next),
@@ -151,13 +153,13 @@ fn words_with_one_possible_count() {
         let mut sink = Sink::new();
         assert_eq!(said(&mut sink, first), Standing::Waiting);
         assert_eq!(said(&mut sink, then), Standing::Paired(14409));
-        let mut sink = Sink { count: Some(14407), word: None };
+        let mut sink = Sink { count: Some(14407), ..Sink::new() };
         assert_eq!(said(&mut sink, first), Standing::Tracked(14408));
         assert_eq!(said(&mut sink, then), Standing::Tracked(14409));
-        let mut sink = Sink { count: Some(14406), word: None };
+        let mut sink = Sink { count: Some(14406), ..Sink::new() };
         assert_eq!(said(&mut sink, first), Standing::Tracked(14408));
         assert_eq!(said(&mut sink, then), Standing::Tracked(14409));
-        let mut sink = Sink { count: Some(14410), word: None };
+        let mut sink = Sink { count: Some(14410), ..Sink::new() };
         assert_eq!(said(&mut sink, first), Standing::Waiting);
         assert_eq!(said(&mut sink, then), Standing::Paired(14409));
     });
@@ -337,7 +339,7 @@ fn replies(
     length: usize,
 ) -> Replies {
     let state = odu0::Source { count, multiframe: 0, payload_type: 7 };
-    let sink = ffi::Sink { known: 1, count, remembered: 0, word: 0 };
+    let sink = ffi::Sink { known: 1, count, ..NEW };
     let mut frame = Lent::new(0, &vec![0x11; length]);
     let mut out = Lent::new(0, &vec![0x22; settings.hi as usize]);
     let mut tallies = odu0::Tallies::new();
@@ -348,7 +350,8 @@ fn replies(
         let new = ffi::odu0_source_new(settings, count, 7);
         let call = ffi::odu0_source_call(settings, state, next, from, bytes, at, length);
         let keeper = ffi::odu0_keeper_call(settings, count, 1, 0);
-        let taken = ffi::odu0_sink_call(settings, sink, at, length, behind, most, 1, &mut tallies);
+        let taken =
+            ffi::odu0_sink_call(settings, sink, ANY, at, length, behind, most, 1, &mut tallies);
         (new, call, keeper, taken, frame.lent().to_vec(), out.lent().to_vec(), tallies)
     }
 }

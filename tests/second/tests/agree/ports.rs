@@ -1,12 +1,12 @@
 //! A tally for each port (02, P2): "each sink call names its port. A call changes only its own
 //! port's three numbers. The card's total is their sum, which may exceed 32 bits."
 
-use crate::both::{all_cases, cases, Case, LentCard};
-use crate::fields::fields_of;
+use crate::both::{all_cases, cases, Case, LentCard, ANY};
+use crate::fields::{fields_of, NEW};
 use crate::given::*;
 use crate::runs::{harm, off_the_card, source_run, watch, Written};
 use odu0::ffi;
-use second::{Card, Random, Settings, Sink, Standing, Taken, Tally, PORTS};
+use second::{Card, Expected, Random, Settings, Sink, Standing, Taken, Tally, PORTS};
 
 const EIGHT: Settings = Settings::new(2, 0, 8);
 
@@ -17,6 +17,7 @@ const FULL: Tally = Tally { frames: u32::MAX, bad: u32::MAX, bytes: u32::MAX };
 struct Given {
     settings: Settings,
     sink: Sink,
+    told: Expected,
     frame: Vec<u8>,
     out: Vec<u8>,
     card: Card,
@@ -32,12 +33,12 @@ impl Given {
         put_control(settings, &mut frame, control);
         let out = settings.hi as usize + random.below(4) as usize;
         let (out, card) = (random.bytes(out), Card::with(any_tallies(random)));
-        Given { settings, sink, frame, out, card }
+        Given { settings, sink, told: any_expected(random), frame, out, card }
     }
 
     fn call(&mut self, case: &mut Case, port: u32) -> Result<Taken, u32> {
-        let Given { settings, sink, frame, out, card } = self;
-        case.sink_on(*settings, sink, frame, out, port, card)
+        let Given { settings, sink, told, frame, out, card } = self;
+        case.told(*told).sink_on(*settings, sink, frame, out, port, card)
     }
 
     /// A call that answers this number and changes no byte, state or number.
@@ -113,7 +114,8 @@ fn every_choice_of_faults() {
             let (frame, out) = (random.bytes(frame), random.bytes(out));
             let (sink, card) = (any_sink(random, settings), Card::with(any_tallies(random)));
             assert_eq!(sink.refusals(settings, &frame, &out, port), faults, "{settings:?}");
-            let mut given = Given { settings, sink, frame, out, card };
+            let told = any_expected(random);
+            let mut given = Given { settings, sink, told, frame, out, card };
             match faults.first() {
                 None => {
                     given.is_counted(case, port);
@@ -150,9 +152,10 @@ fn each_number_stops_by_itself() {
                     tallies[port as usize - 1] = near;
                     let mut frame = vec![0x33; 16];
                     put_control(EIGHT, &mut frame, control);
-                    let sink = Sink { count: Some(count), word: None };
+                    let sink = Sink { count: Some(count), ..Sink::new() };
+                    let (told, settings) = (any_expected(&mut case.random), EIGHT);
                     let (out, card) = (vec![0; 8], Card::with(tallies));
-                    let mut given = Given { settings: EIGHT, sink: sink.clone(), frame, out, card };
+                    let mut given = Given { settings, sink: sink.clone(), told, frame, out, card };
                     for _ in 0..3 {
                         given.sink = sink.clone();
                         assert_eq!(given.is_counted(case, port).handed, count);
@@ -199,13 +202,13 @@ fn numbers_in_a_row() {
 
     let (frame, mut out) = ([0xFF; 16], [0; 8]);
     let (frame, out) = (frame.as_ptr(), out.as_mut_ptr());
-    let sink = ffi::Sink { known: 1, count: 8, remembered: 0, word: 0 };
+    let sink = ffi::Sink { known: 1, count: 8, ..NEW };
     for port in 0..=9 {
         let mut row = bits;
         let tallies = row.as_mut_ptr().cast();
         // SAFETY: the buffers and the numbers are live and do not overlap.
         let reply = unsafe {
-            ffi::odu0_sink_call(fields_of(EIGHT), sink, frame, 16, out, 8, port, tallies)
+            ffi::odu0_sink_call(fields_of(EIGHT), sink, ANY, frame, 16, out, 8, port, tallies)
         };
         let mut wanted = bits;
         if let 1..=8 = port {
@@ -292,6 +295,7 @@ fn cards_of_many_sinks() {
             };
             let Line { given, port, .. } = &mut lines[at];
             (given.frame, given.card) = (frame, card);
+            given.told = any_expected(&mut case.random);
             let port = if case.random.once_in(6) { case.random.from_to(1, PORTS) } else { *port };
             if case.random.once_in(6) {
                 turned_back(case, given, port);
@@ -324,8 +328,10 @@ fn cards_of_many_sinks() {
 
 /// A sink that names any port from call to call: after two unharmed frames in succession it holds
 /// the source's count, and each further one is handed out whole, calls on ports that the card does
-/// not have among them. Each frame is counted on the port that was named for it.
+/// not have among them. Each frame is counted on the port that was named for it. The type check is
+/// off.
 fn recovers_from_port_to_port(case: &mut Case, settings: Settings, frames: usize) {
+    let settings = Settings { type_check: false, ..settings };
     let written = source_run(case, settings, frames);
     let (mut sink, mut card) = (any_sink(&mut case.random, settings), Card::new());
     let trouble = case.random.of(&[2, 5, 20]);

@@ -17,7 +17,7 @@ fn settings_for_refusals() -> Vec<Settings> {
         }
     }
     // The paper's patterns; given ones that keep the rule, and that do not by one bit. Mending off
-    // and on, which refuses nothing.
+    // and on, which refuses nothing; nor does the type check, which is on at random below.
     let with = |settings: &Settings| {
         [*settings, settings.with_patterns([0, 0, 1, 1]), settings.with_patterns([0, 0, 1, 3])]
     };
@@ -63,6 +63,8 @@ fn refusals_of_the_sink() {
             for frame in lengths(settings.frame()) {
                 for out in lengths(u64::from(settings.hi)) {
                     for port in [1, 8, 0, wrong_port(&mut case.random)] {
+                        let type_check = case.random.once_in(2);
+                        let settings = Settings { type_check, ..settings };
                         let state = any_sink(&mut case.random, settings);
                         let (frame, out) = (case.random.bytes(frame), case.random.bytes(out));
                         let card = Card::with(any_tallies(&mut case.random));

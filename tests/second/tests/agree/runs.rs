@@ -2,7 +2,7 @@
 
 use crate::both::{all_cases, cases, Case};
 use crate::given::*;
-use second::{word, Card, Random, Settings, Sink, Standing, Taken, Tally};
+use second::{word, Card, Expected, Random, Settings, Sink, Standing, Taken, Tally, Types};
 
 /// A frame as an accepted source call wrote it.
 pub struct Written {
@@ -12,6 +12,8 @@ pub struct Written {
     pub old: u32,
     /// The count that the frame announces.
     pub next: u32,
+    /// The number that the source gave it, and the source's type.
+    pub own: Expected,
 }
 
 impl Written {
@@ -27,7 +29,7 @@ impl Written {
 /// A source run: so many accepted calls, with refused ones between them.
 pub fn source_run(case: &mut Case, settings: Settings, frames: usize) -> Vec<Written> {
     let first = count_inside(&mut case.random, settings);
-    let payload_type = case.random.u32() as u8;
+    let payload_type = any_type(&mut case.random);
     let mut source = case.source_new(settings, first, payload_type).unwrap();
     // Some runs stay at a count for long, some move with nearly every frame.
     let rest = case.random.of(&[0, 2, 8]);
@@ -35,7 +37,7 @@ pub fn source_run(case: &mut Case, settings: Settings, frames: usize) -> Vec<Wri
     let mut frame = case.random.bytes(settings.frame() as usize);
     for n in 0..frames {
         let random = &mut case.random;
-        let old = source.count;
+        let (old, own) = (source.count, Expected { multiframe: source.multiframe, payload_type });
         let load = random.bytes(old as usize);
         let next = if random.below(10) < rest { old } else { next_count(random, settings, old) };
         if random.once_in(16) {
@@ -54,7 +56,7 @@ pub fn source_run(case: &mut Case, settings: Settings, frames: usize) -> Vec<Wri
         }
         case.source(settings, &mut source, next, &load, &mut frame).unwrap();
         assert_eq!((source.count, source.multiframe), (next, (n as u32 + 1) % 256));
-        written.push(Written { frame: frame.clone(), load, old, next });
+        written.push(Written { frame: frame.clone(), load, old, next, own });
     }
     written
 }
@@ -146,6 +148,9 @@ pub fn rough_line(case: &mut Case, settings: Settings, frames: usize) {
                 };
                 assert!(refused.is_err());
             }
+            if !case.random.once_in(8) {
+                case.told(written[arriving].own);
+            }
             case.sink(settings, &mut state, &frame, &mut out, &mut tally).unwrap();
         }
     }
@@ -202,9 +207,11 @@ fn a_clean_run_on_opu0() {
     });
 }
 
-/// The first claim: after two unharmed frames a sink in any state holds the source's count, and
-/// then goes with a new sink from frame 1.
+/// The first claim, with the type check off: after two unharmed frames a sink in any state holds
+/// the source's count, and then goes with a new sink from frame 1. What it remembers of types
+/// stays.
 pub fn back_after_two_frames(case: &mut Case, settings: Settings, frames: usize) {
+    let settings = Settings { type_check: false, ..settings };
     let written = source_run(case, settings, frames);
     // Frames are numbered from 1: frame n is written[n - 1].
     let m = 1 + case.random.below(frames as u64 - 1) as usize;
@@ -214,6 +221,7 @@ pub fn back_after_two_frames(case: &mut Case, settings: Settings, frames: usize)
         let first = &written[m - 1];
         any = hostile_sink(&mut case.random, settings, word(settings, first.old, first.next));
     }
+    let types = any.types.clone();
     let mut tally = any_tally(&mut case.random);
     for n in 1..=frames {
         let Written { frame, load, next, .. } = &written[n - 1];
@@ -246,10 +254,11 @@ pub fn back_after_two_frames(case: &mut Case, settings: Settings, frames: usize)
             }
         }
     }
+    assert_eq!((new.types, any.types), (Types::new(), types));
 }
 
 /// The second claim: with at most three wrong control bits in each frame, and with mending on at
-/// most two, a new sink never holds a false count.
+/// most two, a new sink never holds a false count, whatever it is told of types.
 pub fn no_false_count(case: &mut Case, settings: Settings, frames: usize) {
     let written = source_run(case, settings, frames);
     let m = 1 + case.random.below(frames as u64) as usize;

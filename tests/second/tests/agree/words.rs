@@ -2,7 +2,7 @@
 //! equations that G.709 gives for it in Table IX.1 and the division of the second implementation;
 //! and every word mended (02, P1).
 
-use crate::both::settings_of;
+use crate::both::{settings_of, ANY};
 use crate::given::{control_bytes, put_control, WIDE};
 use odu0::{Sink, Source, Standing, Taken, Tallies};
 use second::{check, Settings};
@@ -35,7 +35,8 @@ fn every_word_that_is_read() {
         for jc3 in 0..=255 {
             put_control(settings, &mut frame, [jc1, jc2, jc3]);
             let (port, settings) = (1 + u32::from(jc3) % 8, settings_of(settings));
-            let taken = Sink::new().call(settings, &frame, &mut out, port, &mut tallies).unwrap();
+            let taken =
+                Sink::new().call(settings, ANY, &frame, &mut out, port, &mut tallies).unwrap();
             let bad = taken.standing == Standing::BadCheck;
             assert_eq!((bad, taken.mended), (jc3 != right, false), "{word:04X} {jc3:02X}");
         }
@@ -64,7 +65,7 @@ fn every_word_that_is_mended() {
         put_control(WIDE, &mut frame, [jc1, jc2, jc3]);
         let mut sink = Sink::new();
         let port = 1 + u32::from(jc3) % 8;
-        let taken = sink.call(settings, &frame, &mut out, port, &mut tallies).unwrap();
+        let taken = sink.call(settings, ANY, &frame, &mut out, port, &mut tallies).unwrap();
         let (word, mended) = near.map_or((None, false), |(word, mended)| (Some(word), mended));
         let count = word.map(|word| u32::from(word >> 2));
         let (standing, remembered) = match (word.map(|word| word & 3), count) {

@@ -127,26 +127,29 @@ fn a_rate_that_is_refused() {
 }
 
 /// Asserts that odu0demap turns these arguments back, and takes no frame.
-fn assert_not_mend(arguments: &[&str]) {
-    let said = "odu0demap: the only argument is mend\n\
-                usage: odu0demap [mend], frames on standard input, client bytes on standard output\n";
+fn assert_turned_back(arguments: &[&str]) {
+    let said = "odu0demap: the arguments are mend, or type and a number from 0 to 255, or both in \
+                this order\n\
+                usage: odu0demap [mend] [type T], frames on standard input, client bytes on \
+                standard output\n";
     let written = run("odu0demap", arguments, vec![vec![0; 20_000]], None);
     assert_eq!(written, Written { out: vec![], said: said.into() }, "{arguments:?}");
 }
 
 #[test]
-fn odu0demap_takes_only_mend() {
+fn odu0demap_takes_mend() {
     let near = ["men", "mende", "mended", "mends", "nend", "mene", "menb", "end", "Mend", "MEND"];
     let blank = ["", " ", "\n", " mend", "mend ", "mend\n", "\tmend", "m end", "mend mend"];
     let other = ["x", "-", "-mend", "--mend", "mend=1", "\"mend\"", "1", "0", "off", "m\u{e9}nd"];
     for text in near.into_iter().chain(blank).chain(other) {
-        assert_not_mend(&[text]);
+        assert_turned_back(&[text]);
+        assert_turned_back(&[text, "type", "7"]);
     }
     for length in [3, 4, 5, 59, 60, 61, 64, 124, 252, 4092, 5000, 100_000] {
-        assert_not_mend(&[&("mend".to_string() + &"\u{1}".repeat(length))]);
-        assert_not_mend(&[&("mend".to_string() + &padded("", length))]);
-        assert_not_mend(&[&(padded("", length) + "mend")]);
-        assert_not_mend(&[&padded("", length)]);
+        assert_turned_back(&[&("mend".to_string() + &"\u{1}".repeat(length))]);
+        assert_turned_back(&[&("mend".to_string() + &padded("", length))]);
+        assert_turned_back(&[&(padded("", length) + "mend")]);
+        assert_turned_back(&[&padded("", length)]);
     }
     let cases: [&[&str]; 8] = [
         &["mend", "mend"],
@@ -159,7 +162,80 @@ fn odu0demap_takes_only_mend() {
         &["mend"; 100],
     ];
     for arguments in cases {
-        assert_not_mend(arguments);
+        assert_turned_back(arguments);
+    }
+}
+
+#[test]
+fn odu0demap_takes_a_type() {
+    let near = ["typ", "types", "type7", "type 7", "type=7", "ype", "Type", "TYPE", "typo", "tape"];
+    let blank = ["", " ", " type", "type ", "type\n", "-type", "--type", "t\u{ff}pe", "mendtype"];
+    for text in near.into_iter().chain(blank).chain(["type"]) {
+        assert_turned_back(&[text]);
+        assert_turned_back(&["mend", text]);
+    }
+    for text in near.into_iter().chain(blank) {
+        assert_turned_back(&[text, "7"]);
+        assert_turned_back(&["mend", text, "7"]);
+    }
+    for length in [4, 59, 60, 61, 64, 252, 5000] {
+        assert_turned_back(&[&("type".to_string() + &padded("", length)), "7"]);
+        assert_turned_back(&[&("type".to_string() + &"\u{1}".repeat(length)), "7"]);
+    }
+    let cases: [&[&str]; 12] = [
+        &["7"],
+        &["7", "type"],
+        &["mend", "7"],
+        &["type", "mend"],
+        &["type", "type"],
+        &["type", "7", "mend"],
+        &["type", "7", "7"],
+        &["type", "7", ""],
+        &["type", "7", "type", "7"],
+        &["mend", "mend", "type", "7"],
+        &["mend", "type", "7", "mend"],
+        &["mend", "type", "7", "8"],
+    ];
+    for arguments in cases {
+        assert_turned_back(arguments);
+    }
+}
+
+#[test]
+fn types_that_are_no_number_from_0_to_255() {
+    // 7 above 2^8, 2^16, 2^32 and 2^64 among them.
+    let large = ["256", "263", "300", "999", "1000", "65543", "4294967303", "18446744073709551623"];
+    let blank = ["", " ", "7 ", " 7", "\t7", "7\n", "1 2"];
+    let other = ["x", "-1", "-0", "+7", "7.", "7,", "0x7", "7x", "x7", "1e1", "/", ":", "\u{FF17}"];
+    let long = [65, 66, 128, 5000].map(|digits| padded("7", digits));
+    let long = long.iter().map(String::as_str).chain(["7777777777", "99999999999999999999"]);
+    for text in large.into_iter().chain(blank).chain(other).chain(long) {
+        assert_turned_back(&["type", text]);
+        assert_turned_back(&["mend", "type", text]);
+    }
+}
+
+/// Each number is the type that it spells: frames of that type are handed out once it is accepted,
+/// and to one who expects a type beside it nothing is.
+#[test]
+fn types_from_0_to_255() {
+    let mut frames = mapped(&Random::new(33).bytes(514 * 14407), (14407, 1)).out;
+    let bytes = |frames: &[u8], of: &str| {
+        let written = run("odu0demap", &["type", of], vec![frames.to_vec()], None);
+        let accepted = format!("frame 513: accepted type {}\n", frames[11430]);
+        assert!(written.said.contains(&accepted), "type {of}: {}", written.said);
+        written.out.len()
+    };
+    for psi in [0, 1, 9, 10, 99, 100, 128, 199, 249, 250, 255] {
+        for frame_number in [1, 257, 513] {
+            frames[(frame_number - 1) * 15240 + 11430] = psi;
+        }
+        assert_eq!(bytes(&frames, &psi.to_string()), 14407, "type {psi}");
+        assert_eq!(bytes(&frames, &(psi ^ 1).to_string()), 0, "type {psi}");
+    }
+    // Zeros before the number, in up to 64 digits.
+    for digits in [4, 20, 63, 64] {
+        assert_eq!(bytes(&frames, &padded("255", digits)), 14407, "{digits} digits");
     }
 }
 

@@ -153,6 +153,21 @@ fn a_standing_whose_bytes_are_not_written() {
     }
 }
 
+/// With the type check on nothing is written before the type is accepted, which is told; the write
+/// of frame 514 is the first that fails.
+#[test]
+fn an_accepted_type_and_a_full_device() {
+    let client = Random::new(25).bytes(514 * 14407);
+    let frames = mapped(&client, (14407, 1)).out;
+    let [_, case, _] = cases();
+    let case = Case { arguments: &["type", "7"], ..case };
+    let totals = "odu0demap: frames 513, BADCHECK 0, bytes 0\n";
+    let accepted = "frame 513: accepted type 7\n";
+    let said = [case.lines, accepted, &case.failed("output", ENOSPC), totals].concat();
+    let ended = run_onto(full_device(), case.program(), Input::StaysOpen(frames));
+    assert_ended(ended, b"", &said);
+}
+
 #[test]
 fn a_full_device_for_the_line_of_a_rest() {
     let [.., sinkshow] = cases();

@@ -2,13 +2,14 @@
 //! sink at OPU0's size.
 
 use crate::feed::{pieces, run, Written};
-use second::{Card, Keeper, Random, Settings, Sink, Source, Taken};
+use second::{Card, Expected, Keeper, Random, Settings, Sink, Source, Taken};
 use std::time::Duration;
 
 const OPU0: Settings = Settings::OPU0;
 const FRAME: usize = 15240;
-/// Where JC1, JC2 and JC3 stand.
+/// Where JC1, JC2 and JC3 stand, and where the PSI byte does.
 const CONTROL: [usize; 3] = [1, 3811, 7621];
+const PSI: usize = 11430;
 const TYPE: u8 = 7;
 const USUAL: (u32, u32) = (18_671_875, 1296);
 
@@ -29,23 +30,40 @@ pub fn mapped(input: &[u8], (p, q): (u32, u32)) -> Written {
     Written { out, said: left("odu0map", rest.len()) + &totals }
 }
 
-/// What odu0demap writes, by the second implementation: the client bytes, a line for each change of
-/// standing and, where the argument `mend` says so, for each mended frame, and the tally.
+/// What odu0demap writes, by the second implementation: the client bytes; a line for each change of
+/// standing and, where the argument `mend` says so, for each mended frame; where `type` and the
+/// number of a type say so, one for each change of the accepted type; and the tally.
 pub fn demapped(input: &[u8], arguments: &[&str]) -> Written {
-    let settings = Settings { mending: arguments == ["mend"], ..OPU0 };
+    let (mending, of) = match arguments {
+        ["mend", rest @ ..] => (true, rest),
+        rest => (false, rest),
+    };
+    let expected: Option<u8> = match of {
+        [] => None,
+        ["type", number] => Some(number.parse().unwrap()),
+        other => panic!("{other:?}"),
+    };
+    let settings = Settings { mending, type_check: expected.is_some(), ..OPU0 };
     let (mut sink, mut card, mut before) = (Sink::new(), Card::new(), None);
     let (mut out, mut said) = (Vec::new(), String::new());
     let frames = input.chunks_exact(FRAME);
     let rest = frames.remainder().len();
     for (frame_number, frame) in (1..).zip(frames) {
         let mut bytes = vec![0; OPU0.hi as usize];
-        let taken = sink.call(settings, frame, &mut bytes, 1, &mut card).unwrap();
+        // The program numbers the frames itself.
+        let told =
+            Expected { multiframe: frame_number - 1, payload_type: expected.unwrap_or_default() };
+        let accepted = sink.types.accepted();
+        let taken = sink.call(settings, told, frame, &mut bytes, 1, &mut card).unwrap();
         let Taken { standing, handed, mended } = taken;
         out.extend(&bytes[..handed as usize]);
         if before != Some(standing) || mended {
             let count = standing.count().map_or("-".to_string(), |count| count.to_string());
             let mended = if mended { " mended" } else { "" };
             said += &format!("frame {frame_number}: {} {count}{mended}\n", standing.name());
+        }
+        if let Some(now) = sink.types.accepted().filter(|now| Some(*now) != accepted) {
+            said += &format!("frame {frame_number}: accepted type {now}\n");
         }
         before = Some(standing);
     }
@@ -145,7 +163,7 @@ fn demapping_what_was_harmed() {
         let mut input = harmed(&mut random, &mapped(&client, at).out);
         let rest = random.of(&[0, 1, 15239]);
         input.extend(random.bytes(rest));
-        for arguments in [&[][..], &["mend"]] {
+        for arguments in [&[][..], &["mend"], &["type", "7"], &["mend", "type", "0"]] {
             let fed = pieces(&mut random, &input, 40_000);
             let written = run("odu0demap", arguments, fed, None);
             assert!(
@@ -241,6 +259,100 @@ fn lines_of_mended_frames() {
     let said = "frame 1: WAITING - mended\nframe 2: PAIRED 14407\nframe 3: READ 14407\n\
                 odu0demap: frames 3, BADCHECK 0, bytes 14407\n";
     assert_eq!(written.said, said);
+}
+
+/// The argument `type` on the frames of odu0map, which have type 7 in frames 1, 257 and 513: bytes
+/// come from frame 514 on where 7 is expected, and none where another type is.
+#[test]
+fn types_of_mapped_frames() {
+    let client = Random::new(22).bytes(14407 * 516);
+    let frames = mapped(&client, (14407, 1)).out;
+    let said = |bytes: u32| {
+        format!(
+            "frame 1: READ 14407\nframe 513: accepted type 7\n\
+             odu0demap: frames 516, BADCHECK 0, bytes {bytes}\n"
+        )
+    };
+    let right = run("odu0demap", &["type", "7"], vec![frames.clone()], None);
+    assert_eq!(right.said, said(3 * 14407));
+    assert!(right.out == client[513 * 14407..]);
+    assert!(right == demapped(&frames, &["type", "7"]));
+    for other in ["0", "5", "6", "8", "23", "255"] {
+        let written = run("odu0demap", &["type", other], vec![frames.clone()], None);
+        assert_eq!((written.said, written.out.len()), (said(0), 0), "type {other}");
+    }
+    // One frame less than the third numbered 0, and one less than the first that is handed out.
+    for (taken, lines) in
+        [(512, "frame 1: READ 14407\n"), (513, "frame 1: READ 14407\nframe 513: accepted type 7\n")]
+    {
+        let frames = frames[..taken * FRAME].to_vec();
+        let written = run("odu0demap", &["type", "7"], vec![frames], None);
+        let tally = format!("odu0demap: frames {taken}, BADCHECK 0, bytes 0\n");
+        assert_eq!((written.said, written.out.len()), (lines.to_string() + &tally, 0));
+    }
+    // With `mend` before it a wrong bit is mended too; a mended frame has its line first.
+    let mut harmed = frames;
+    for (frame_number, bit) in [(2, 5), (513, 24), (515, 1)] {
+        turn_over(&mut harmed[(frame_number - 1) * FRAME..], bit);
+    }
+    let written = run("odu0demap", &["mend", "type", "7"], vec![harmed.clone()], None);
+    let said = "frame 1: READ 14407\nframe 2: READ 14407 mended\nframe 513: READ 14407 mended\n\
+                frame 513: accepted type 7\nframe 515: READ 14407 mended\n\
+                odu0demap: frames 516, BADCHECK 0, bytes 43221\n";
+    assert_eq!(written.said, said);
+    assert!(written.out == client[513 * 14407..]);
+    assert!(written == demapped(&harmed, &["mend", "type", "7"]));
+}
+
+/// Frames whose type changes: 0 three times, then 7 and 0 once each, and 7 four times.
+#[test]
+fn types_that_change() {
+    let client = Random::new(23).bytes(14407 * 1800);
+    let mut frames = mapped(&client, (14407, 1)).out;
+    for (multiframe, psi) in [0, 0, 0, 7, 0, 7, 7, 7].into_iter().enumerate() {
+        frames[256 * multiframe * FRAME + PSI] = psi;
+    }
+    // No other byte than the PSI byte in these frames is a type.
+    frames[300 * FRAME + PSI] = 9;
+    let lines = "frame 1: READ 14407\nframe 513: accepted type 0\nframe 1793: accepted type 7\n";
+    for (of, range) in [("0", 513..1793), ("7", 1793..1800), ("9", 0..0)] {
+        let written = run("odu0demap", &["type", of], vec![frames.clone()], None);
+        let bytes = range.len() * 14407;
+        let tally = format!("odu0demap: frames 1800, BADCHECK 0, bytes {bytes}\n");
+        assert_eq!(written.said, lines.to_string() + &tally, "type {of}");
+        assert!(written.out == client[range.start * 14407..range.end * 14407], "type {of}");
+        assert!(written == demapped(&frames, &["type", of]), "type {of}");
+    }
+}
+
+/// The type of a harmed frame is read as it came, that of a BADCHECK frame too; a frame too
+/// many moves the numbers, which the program gives by itself.
+#[test]
+fn types_of_harmed_frames() {
+    let client = Random::new(24).bytes(14407 * 520);
+    let frames = mapped(&client, (14407, 1)).out;
+    let with = |change: &dyn Fn(&mut Vec<u8>), said: &str| {
+        let mut frames = frames.clone();
+        change(&mut frames);
+        let written = run("odu0demap", &["type", "7"], vec![frames.clone()], None);
+        assert_eq!(written.said, said);
+        assert!(written == demapped(&frames, &["type", "7"]));
+    };
+    with(
+        &|frames| (1..=3).for_each(|bit| turn_over(&mut frames[512 * FRAME..], bit)),
+        "frame 1: READ 14407\nframe 513: BADCHECK -\nframe 513: accepted type 7\n\
+         frame 514: READ 14407\nodu0demap: frames 520, BADCHECK 1, bytes 86442\n",
+    );
+    with(
+        &|frames| frames[256 * FRAME + PSI] ^= 1,
+        "frame 1: READ 14407\nodu0demap: frames 520, BADCHECK 0, bytes 0\n",
+    );
+    // The frames numbered 0 come as the second, the 258th and so on.
+    with(
+        &|frames| drop(frames.splice(..0, vec![0xFF; FRAME])),
+        "frame 1: BADCHECK -\nframe 2: READ 14407\n\
+         odu0demap: frames 521, BADCHECK 1, bytes 0\n",
+    );
 }
 
 /// Through both filters: the first frame says only "one more", so a new sink hands out every load

@@ -1,7 +1,7 @@
 //! The program sinkshow against the second implementation's lines.
 
 use crate::feed::{pieces, run};
-use second::{Card, Random, Settings, Sink, Taken};
+use second::{Card, Expected, Random, Settings, Sink, Taken};
 use std::time::Duration;
 
 const SETTINGS: Settings = Settings::new(2, 0, 8);
@@ -19,11 +19,13 @@ fn shown(pieces: Vec<Vec<u8>>, pause: Option<Duration>) -> String {
 /// The same by the second implementation.
 pub fn lines(input: &[u8]) -> String {
     let (mut sink, mut card, mut out) = (Sink::new(), Card::new(), [0; 8]);
+    // The type check is off: any type may be expected.
+    let any = Expected { multiframe: 0, payload_type: 0 };
     let mut lines = String::new();
     let frames = input.chunks_exact(16);
     let rest = frames.remainder().len();
     for (frame_number, frame) in (1..).zip(frames) {
-        let taken = sink.call(SETTINGS, frame, &mut out, 1, &mut card).unwrap();
+        let taken = sink.call(SETTINGS, any, frame, &mut out, 1, &mut card).unwrap();
         let Taken { standing, handed, .. } = taken;
         let count = standing.count().map_or("-".to_string(), |count| count.to_string());
         lines += &format!("{frame_number} {handed} {} {count}\n", standing.name());
