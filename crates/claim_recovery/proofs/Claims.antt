@@ -22,8 +22,8 @@ use Rattle.gmp_source.specs.declared.SourceState.{SourceState}
 use Rattle.gmp_sink.specs.declared.SinkState.{SinkState}
 use Rattle.gmp_sink.specs.Sink.{newSink}
 use Rattle.claim_recovery.specs.Runs.{At, Nth, SourceCall, SinkCall, SourceStep, SinkStep, sourceSteps, sinkSteps, sinkEnd, loadOf, countOf}
-use Rattle.claim_recovery.specs.Demand.{SourceRun, Reads, Unharmed, AtMostWrong, Hands, Delivers, Recovery, PassedOn, zerosBefore, TypedEach, TypedRecovery, ThreeCome, NoFalseCount, Demand3}
-use Rattle.claim_recovery.specs.Mended.{OneWrong, KeepsEach, HoldsCount, Held, CostsNothing}
+use Rattle.claim_recovery.specs.Demand.{SourceRun, Reads, Unharmed, AtMostWrong, Hands, Delivers, Recovery, HoldsCount, PassedOn, zerosBefore, TypedEach, TypedRecovery, ThreeCome, NoFalseCount, Demand3}
+use Rattle.claim_recovery.specs.Mended.{OneWrong, KeepsEach, Held, CostsNothing}
 use Rattle.claim_recovery.proofs.Lists.{Each, to-each, each-at, each-both, at-drop, drop-at, nth-at, at-nth, nth-same}
 use Rattle.claim_recovery.proofs.Threads.{Chain, chain, chain-drop, Thread, thread}
 use Rattle.claim_recovery.proofs.Along.{countAfter, AsWritten, unharmed, Kept, Went, in-step, recovers, never-false, Good, all-good}
@@ -175,16 +175,21 @@ module _ (s : Settings) (on : s .«type_check» ≡ true) (source : SourceState)
 -- Unharmed frames are such.
 typed-recovers : TypedRecovery
 typed-recovers s on source calls run expected m n z reader reads =
-    typed-by s on source calls run Unharmed expected m n z reader reads passed (m + 2) (omega arith)
-    (λ i low high.
-    let h = by-number s source calls run Lent m n z reader reads (Went s Lent) 2 (recovered s source calls run Lent m n z reader reads goes (omega arith) .1) i low high in
-    (h .0, h .1, h .2, h .3, h .4 .0))
+    record {
+      hold = λ far. holds s source calls run Lent m n z reader reads goes far;
+      bytes = typed-by s on source calls run Unharmed expected m n z reader reads passed (m + 2) (omega arith) kept;
+    }
   where
     Lent : SourceStep → SinkStep → Type 0
     Lent = PassedOn Unharmed expected
 
     goes : (x : SourceStep) (y : SinkStep) → Lent x y → AsWritten s x y
     goes x y h = unharmed s x y (h .lent)
+
+    kept : (i : ℕ) → m + 2 ≤ i → i ≤ n → (x : SourceStep) × (y : SinkStep) × Nth (sourceSteps source calls) i x × Nth (sinkSteps z reader) (i + 1 - m) y × Kept s x y
+    kept i low high =
+        let h = by-number s source calls run Lent m n z reader reads (Went s Lent) 2 (recovered s source calls run Lent m n z reader reads goes (omega arith) .1) i low high in
+        (h .0, h .1, h .2, h .3, h .4 .0)
 
     passed : Each (PassedOn (AsWritten s) expected) (drop (m - 1) (sourceSteps source calls)) (sinkSteps z reader)
     passed =

@@ -92,6 +92,10 @@ Recovery =
     → (z : SinkState) (fromAny : List SinkCall) → Reads s (sourceSteps source calls) Unharmed m n z fromAny
     → Recovered s (sourceSteps source calls) m n fromFirst z fromAny
 
+-- after all its calls the sink holds count n
+abbrev pub HoldsCount : List SourceStep → (n : ℕ) → SinkState → List SinkCall → Type 0
+HoldsCount sent n z reader = (x : SourceStep) × Nth sent n x × (sinkEnd z reader .count ≡ Known (countOf x))
+
 -- The frame is lent so, and the sink is told the number that the source wrote it with, modulo 256,
 -- and that this type is expected (02, P4: "a user who passes on the source's own multiframe numbers
 -- and one expected type").
@@ -128,14 +132,21 @@ pub record Typed (source : SourceState) (sent : List SourceStep) (expected m i :
 abbrev pub TypedEach : SourceState → List SourceStep → (expected m first n : ℕ) → SinkState → List SinkCall → Type 0
 TypedEach source sent expected m first n z reader = (i : ℕ) → first ≤ i → i ≤ n → TypeCame source sent m i z → Typed source sent expected m i z reader
 
--- The first claim's bytes with the type check on (02, P4): a sink in any state that reads from
--- frame m unharmed, told each frame's own number and one type. Its count it has after two frames,
--- as the first claim says.
+-- "has the count after two frames, and .. the bytes at the latest once three unharmed frames
+-- numbered 0 .. have also come": after n, n at least m + 1, the sink holds count n, and for each
+-- frame i from m + 2 to n for which the type came its call is as above.
+pub record TypedRecovered (source : SourceState) (sent : List SourceStep) (expected m n : ℕ) (z : SinkState) (reader : List SinkCall) : Type 0 where
+  pub hold : m + 1 ≤ n → HoldsCount sent n z reader
+  pub bytes : TypedEach source sent expected m (m + 2) n z reader
+
+-- The first claim with the type check on (02, P4): "a user who passes on the source's own
+-- multiframe numbers and one expected type, recovering from an arbitrary state". A sink in any
+-- state that reads from frame m unharmed, told each frame's own number and one type.
 abbrev pub TypedRecovery : Type 0
 TypedRecovery =
     (s : Settings) → s .«type_check» ≡ true → (source : SourceState) (calls : List SourceCall) → SourceRun s source calls
     → (expected m n : ℕ) (z : SinkState) (reader : List SinkCall) → Reads s (sourceSteps source calls) (PassedOn Unharmed expected) m n z reader
-    → TypedEach source (sourceSteps source calls) expected m (m + 2) n z reader
+    → TypedRecovered source (sourceSteps source calls) expected m n z reader
 
 -- Any 768 frames in succession hold three numbered 0: the frames m to i - 1, which were sent.
 abbrev pub ThreeCome : Type 0

@@ -11,8 +11,8 @@ use Rattle.gmp_standing.specs.declared.Count.the-variants.{Known}
 use Rattle.gmp_frame.specs.Frame.{controlOf, OthersSame}
 use Rattle.gmp_source.specs.declared.SourceState.{SourceState}
 use Rattle.gmp_sink.specs.declared.SinkState.{SinkState}
-use Rattle.claim_recovery.specs.Runs.{Nth, SourceCall, SinkCall, SourceStep, SinkStep, sinkAfter, sourceSteps, sinkSteps, sinkEnd, frameOf, countOf, mendedOf}
-use Rattle.claim_recovery.specs.Demand.{SourceRun, Reads, Unharmed, wrongControlBits, AtMostWrong, Delivers, PassedOn, TypedEach}
+use Rattle.claim_recovery.specs.Runs.{Nth, SourceCall, SinkCall, SourceStep, SinkStep, sinkAfter, sourceSteps, sinkSteps, frameOf, countOf, mendedOf}
+use Rattle.claim_recovery.specs.Demand.{SourceRun, Reads, Unharmed, wrongControlBits, AtMostWrong, Delivers, HoldsCount, PassedOn, TypedEach}
 
 -- A frame lent with at most one wrong control bit, its other bytes unharmed.
 pub record OneWrong (s : Settings) (x : SourceStep) (y : SinkStep) : Type 0 where
@@ -31,10 +31,6 @@ pub record Keeps (s : Settings) (x : SourceStep) (y : SinkStep) : Type 0 where
 abbrev pub KeepsEach : Settings → List SourceStep → (m first n : ℕ) → SinkState → List SinkCall → Type 0
 KeepsEach s sent m first n z reader =
     (i : ℕ) → first ≤ i → i ≤ n → (x : SourceStep) × (y : SinkStep) × Nth sent i x × Nth (sinkSteps z reader) (i + 1 - m) y × Keeps s x y
-
--- after all its calls the sink holds count n
-abbrev pub HoldsCount : List SourceStep → (n : ℕ) → SinkState → List SinkCall → Type 0
-HoldsCount sent n z reader = (x : SourceStep) × Nth sent n x × (sinkEnd z reader .count ≡ Known (countOf x))
 
 -- the sink holds the source's count before frame m
 abbrev pub Held : List SourceStep → (m : ℕ) → SinkState → Type 0
