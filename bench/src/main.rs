@@ -127,7 +127,7 @@ impl Job {
         Sink { count: Some(self.client.len() as u32), ..Sink::new() }
     }
 
-    /// With the type check on the fourth frame is taken, and the three before it are not.
+    /// With the type check on the fourth frame is handed out, and the three before it are not.
     fn agree_typed(&self, out: &mut [u8]) {
         let (on, mut sink, count) =
             (self.settings.with_type_check(), self.sink(), self.client.len());

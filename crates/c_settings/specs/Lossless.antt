@@ -11,7 +11,8 @@ use Rattle.gmp_settings.specs.Settings.{newSettings, withMending, withTypeCheck
 use Rattle.c_settings.specs.declared.SettingsNumbers.{SettingsNumbers}
 use Rattle.c_settings.specs.Numbers.{settingsFrom}
 
--- the numbers of settings with this grid, window, patterns, flag of mending and flag of the check
+-- the numbers of settings with this grid, window, patterns, flag of mending and flag of the type
+-- check
 abbrev pub numbersOf : ℕ → ℕ → ℕ → Patterns → ℕ → ℕ → SettingsNumbers
 numbersOf k lo hi Standard mends checks =
     record { k = k; lo = lo; hi = hi; given = 0; plus1 = 0; minus1 = 0; plus2 = 0; minus2 = 0; mending = mends; «type_check» = checks }

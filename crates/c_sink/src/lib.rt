@@ -56,9 +56,9 @@ struct Flagged {
     value: u32,
 }
 
-// How often, 0 for never, beside the payload type.
-struct Timed {
-    times: u32,
+// A flag or how often, 0 for none, beside a payload type.
+struct TypeNumbers {
+    number: u32,
     payload_type: u8,
 }
 
@@ -244,8 +244,8 @@ fn state_numbers(state: SinkState) -> SinkNumbers
         count: known.value,
         remembered: remembered.flag,
         word: remembered.value,
-        accepted: kept.times,
-        seen: last.times,
+        accepted: kept.number,
+        seen: last.number,
         accepted_type: kept.payload_type,
         seen_type: last.payload_type,
     }
@@ -299,16 +299,16 @@ fn accepted_from(flag: u32, payload_type: u8) -> AcceptedType
     AcceptedType::PayloadType(payload_type)
 }
 
-fn accepted_numbers(accepted: AcceptedType) -> Timed
-    ensures { λ r. ⌜ (r .times ≡ acceptedFlag accepted) × (r .«payload_type» ≡ acceptedType accepted) ⌝ }
+fn accepted_numbers(accepted: AcceptedType) -> TypeNumbers
+    ensures { λ r. ⌜ (r .number ≡ acceptedFlag accepted) × (r .«payload_type» ≡ acceptedType accepted) ⌝ }
 {
     match accepted {
-        AcceptedType::PayloadType(kept) => Timed {
-            times: 1,
+        AcceptedType::PayloadType(kept) => TypeNumbers {
+            number: 1,
             payload_type: kept,
         },
-        AcceptedType::NoType => Timed {
-            times: 0,
+        AcceptedType::NoType => TypeNumbers {
+            number: 0,
             payload_type: 0,
         },
     }
@@ -327,20 +327,20 @@ fn seen_from(times: u32, payload_type: u8) -> Seen
     Seen::Twice(payload_type)
 }
 
-fn seen_numbers(seen: Seen) -> Timed
-    ensures { λ r. ⌜ (r .times ≡ seenTimes seen) × (r .«payload_type» ≡ seenType seen) ⌝ }
+fn seen_numbers(seen: Seen) -> TypeNumbers
+    ensures { λ r. ⌜ (r .number ≡ seenTimes seen) × (r .«payload_type» ≡ seenType seen) ⌝ }
 {
     match seen {
-        Seen::Never => Timed {
-            times: 0,
+        Seen::Never => TypeNumbers {
+            number: 0,
             payload_type: 0,
         },
-        Seen::Once(last) => Timed {
-            times: 1,
+        Seen::Once(last) => TypeNumbers {
+            number: 1,
             payload_type: last,
         },
-        Seen::Twice(last) => Timed {
-            times: 2,
+        Seen::Twice(last) => TypeNumbers {
+            number: 2,
             payload_type: last,
         },
     }

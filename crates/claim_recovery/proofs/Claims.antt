@@ -137,8 +137,8 @@ recovers-both s source calls run m n far fromFirst reads z fromAny reads₂ =
           );
     }
 
--- With the check on: frames that go for those that were written, each told by its own number and
--- with one expected type. Where the type came, the gate goes by the source's.
+-- With the type check on: frames that go for those that were written, each told by its own number
+-- and with one expected type. Where the type came, the gate goes by the source's.
 module _ (s : Settings) (on : s .«type_check» ≡ true) (source : SourceState) (calls : List SourceCall) (run : SourceRun s source calls) (Lent : SourceStep → SinkStep → Type 0)
     (expected m n : ℕ) (z : SinkState) (reader : List SinkCall) (reads : Reads s (sourceSteps source calls) (PassedOn Lent expected) m n z reader)
     (passed : Each (PassedOn (AsWritten s) expected) (drop (m - 1) (sourceSteps source calls)) (sinkSteps z reader)) where
@@ -305,7 +305,7 @@ module _ (s : Settings) (on : s .mending ≡ true) (source : SourceState) (calls
   hunting-by : KeepsEach s all m (m + 2) n z reader × (m + 1 ≤ n → HoldsCount all n z reader)
   hunting-by = (λ i low high. keeps 2 (found (omega arith) .1) i low high, λ l. let up = reads .up-to in last (omega arith) (found l .0))
 
--- And with the check of the payload type on.
+-- And with the type check on.
 module _ (s : Settings) (mends : s .mending ≡ true) (on : s .«type_check» ≡ true) (source : SourceState) (calls : List SourceCall) (run : SourceRun s source calls)
     (expected m n : ℕ) (z : SinkState) (reader : List SinkCall) (reads : Reads s (sourceSteps source calls) (PassedOn (OneWrong s) expected) m n z reader) where
   plain : Reads s (sourceSteps source calls) (OneWrong s) m n z reader

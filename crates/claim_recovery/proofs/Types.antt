@@ -92,8 +92,8 @@ zeros-of a (suc l) (x ∷ xs) h le = by (eqb (numberOf x) 0) refl (zeros-of (a +
     by true e later = let z : numberOf x ≡ 0 = eqb-true _ 0 e in let n = h .0 in omega arith
     by false e later = let z : numberOf x ≡ 0 → ⊥ = eqb-false _ 0 e in let n = h .0 in omega (arith, z)
 
--- What a sink remembers of types, where the check is on: it is told each frame's number, and the
--- frames go for those that a source of this type wrote.
+-- What a sink remembers of types, where the type check is on: it is told each frame's number, and
+-- the frames go for those that a source of this type wrote.
 module _ (s : Settings) (on : s .«type_check» ≡ true) (is expected : ℕ) where
   -- one frame
   types-step : (old : ℕ) (x : SourceStep) (z : SinkState) (y : SinkStep) → Link s old x → PassedOn (AsWritten s) expected x y → x .state .«payload_type» ≡ is

@@ -4,7 +4,7 @@ use mathlib.Core.Path.{_≡_}
 use mathlib.Core.Logic.{_⊎_}
 use mathlib.Core.Bool.{Bool, true, false, cond}
 use mathlib.Core.List.{List, [], _∷_, _++_}
-use Prim.Native.Nat.{ℕ, suc, _+_, _-_, _≤_, _%_}
+use Prim.Native.Nat.{ℕ, suc, _+_, _-_, _≤_}
 use lib.Dec.{eqb}
 use lib.ListN.{length, take, drop}
 use Rattle.gmp_crc8.specs.Check.{wrongBits}
@@ -17,6 +17,7 @@ use Rattle.gmp_control.specs.Word.{equalIndicators, wordBy}
 use Rattle.gmp_frame.specs.declared.Control.{Control}
 use Rattle.gmp_frame.specs.Frame.{controlOf}
 use Rattle.gmp_payload_type.specs.declared.AcceptedType.the-variants.{PayloadType}
+use Rattle.gmp_payload_type.specs.Types.{numberTold}
 use Rattle.gmp_source.specs.declared.SourceState.{SourceState}
 use Rattle.gmp_source.specs.Source.{newSource}
 use Rattle.gmp_sink.specs.declared.SinkState.{SinkState}
@@ -65,9 +66,9 @@ pub record Hands (bytes : List ℕ) (y : SinkStep) : Type 0 where
   pub buffer : outOf y ≡ bytes ++ drop (length bytes) (y .call .out)
 
 -- The call answers count i, "READ where frame i has II = DI and otherwise TRACKED", and hands out
--- "exactly load i": where the payload type is not checked; where it is, that or nothing, and when
--- it is that the typed recovery below says (02, P4: "With the check on, the bytes of demand 3 come
--- later").
+-- "exactly load i" where the payload type is not checked. Where it is checked it hands out that or
+-- nothing, and the typed recovery below says when it is the load (02, P4: "With the check on, the
+-- bytes of demand 3 come later").
 pub record Delivers (s : Settings) (x : SourceStep) (y : SinkStep) : Type 0 where
   pub standing : answerOf y ≡ accepted (finding (cond (equalFrame x) READ TRACKED) (Known (countOf x)))
   pub unchecked : s .«type_check» ≡ false → Hands (loadOf x) y
@@ -96,12 +97,12 @@ Recovery =
 abbrev pub HoldsCount : List SourceStep → (n : ℕ) → SinkState → List SinkCall → Type 0
 HoldsCount sent n z reader = (x : SourceStep) × Nth sent n x × (sinkEnd z reader .count ≡ Known (countOf x))
 
--- The frame is lent so, and the sink is told the number that the source wrote it with, modulo 256,
--- and that this type is expected (02, P4: "a user who passes on the source's own multiframe numbers
--- and one expected type").
+-- The frame is lent so, and the sink is told the number that the source wrote it with, and that
+-- this type is expected (02, P4: "a user who passes on the source's own multiframe numbers and one
+-- expected type").
 pub record PassedOn (Lent : SourceStep → SinkStep → Type 0) (payload-type : ℕ) (x : SourceStep) (y : SinkStep) : Type 0 where
   pub lent : Lent x y
-  pub number : y .call .expected .multiframe % 256 ≡ numberOf x
+  pub number : numberTold (y .call .expected) ≡ numberOf x
   pub expected : y .call .expected .«payload_type» ≡ payload-type
 
 -- how many of these frames are numbered 0, and how many of the frames m to i - 1

@@ -7,9 +7,9 @@ ghost use Rattle.claim_recovery.specs.Tallied.{TallySums};
 ghost use Rattle.claim_recovery.specs.Observed.{AsDefined};
 
 // Two unharmed frames find the count from any state, and with it the bytes. Where the payload type
-// is checked, each call is told the source's own number and all its type as the expected one, the
-// bytes come behind the third frame numbered 0 at the latest. Up to three wrong control bits a
-// frame, or two where mending is on, give no false count.
+// is checked, and each call is told the frame's own number and the source's type as the expected
+// one, the bytes come behind the third frame numbered 0 at the latest. Up to three wrong control
+// bits a frame, or two where mending is on, give no false count.
 pub fn demand_3()
     ensures { λ _. ⌜ Demand3 ⌝ }
 {}
@@ -21,14 +21,15 @@ pub fn mending_costs_nothing()
     ensures { λ _. ⌜ CostsNothing ⌝ }
 {}
 
-// Sources do not look at mending or at the type check, so the claims hold of a sink
-// that mends or checks behind a source whose settings say nothing of it.
+// Sources do not look at mending or at the type check, so the claims hold of a sink that mends or
+// checks behind a source whose settings say nothing of it.
 pub fn flags_are_the_sinks()
     ensures { λ _. ⌜ SinksOwn ⌝ }
 {}
 
-// With the type check on, a new sink hands out a byte only where the last type that three frames
-// numbered 0 running had, as it took them with the type check on, is the expected one.
+// With the type check on, a new sink hands out a byte of a frame only where the last type that
+// three frames numbered 0 running had, as it took them with the type check on before, is the
+// expected one.
 pub fn only_expected_type()
     ensures { λ _. ⌜ OnlyExpectedType ⌝ }
 {}

@@ -7,11 +7,10 @@ use mathlib.Core.List.{List}
 use Prim.Native.Nat.{ℕ, _+_, _-_, _≤_}
 use Rattle.gmp_crc8.specs.Claims.{budget}
 use Rattle.gmp_settings.specs.declared.Settings.{Settings}
-use Rattle.gmp_standing.specs.declared.Count.the-variants.{Known}
 use Rattle.gmp_source.specs.declared.SourceState.{SourceState}
 use Rattle.gmp_sink.specs.Sink.{newSink}
-use Rattle.claim_recovery.specs.Runs.{Nth, SourceCall, SinkCall, SourceStep, SinkStep, sourceSteps, sinkSteps, sinkEnd, loadOf, countOf}
-use Rattle.claim_recovery.specs.Demand.{SourceRun, Reads, Unharmed, Hands, Delivers, PassedOn, zerosBefore, NoFalseCount}
+use Rattle.claim_recovery.specs.Runs.{Nth, SourceCall, SinkCall, SourceStep, SinkStep, sourceSteps, sinkSteps, loadOf}
+use Rattle.claim_recovery.specs.Demand.{SourceRun, Reads, Unharmed, Hands, Delivers, HoldsCount, PassedOn, zerosBefore, NoFalseCount}
 
 -- the new sink holds count n, n at least m + least
 abbrev pub HoldsAfter : ℕ → Type 0
@@ -19,7 +18,7 @@ HoldsAfter least =
     (s : Settings) (source : SourceState) (calls : List SourceCall) → SourceRun s source calls
     → (m n : ℕ) → m + least ≤ n
     → (reader : List SinkCall) → Reads s (sourceSteps source calls) Unharmed m n newSink reader
-    → (x : SourceStep) × Nth (sourceSteps source calls) n x × (sinkEnd newSink reader .count ≡ Known (countOf x))
+    → HoldsCount (sourceSteps source calls) n newSink reader
 
 -- and delivers each frame from m + gap
 abbrev pub DeliversAfter : ℕ → Type 0

@@ -15,9 +15,9 @@ use Rattle.gmp_control.specs.Word.{wordBy}
 use Rattle.gmp_payload_type.specs.Types.{newTypes}
 use Rattle.gmp_sink.specs.declared.SinkState.{SinkState}
 use Rattle.gmp_sink.specs.Sink.{newSink}
-use Rattle.claim_recovery.specs.Runs.{Nth, SourceCall, SinkCall, SourceStep, SinkStep, sourceSteps, sinkSteps, sinkEnd, mendedOf}
+use Rattle.claim_recovery.specs.Runs.{SourceCall, SinkCall, SinkStep, sourceSteps, sinkSteps, sinkEnd, mendedOf}
 use Rattle.claim_recovery.specs.Demand.{SourceRun, Reads, AtMostWrong}
-use Rattle.claim_recovery.specs.Mended.{OneWrong, flaggedCall}
+use Rattle.claim_recovery.specs.Mended.{OneWrong, Held, flaggedCall}
 use Rattle.claim_recovery.specs.Tallied.{badFramesOf}
 use Rattle.claim_worked.specs.Run.{small, wrong, room, source, calls, frame1, frame2, frame3, frame4, frame5, frame6, hear, frames, answers, says, silent}
 
@@ -85,7 +85,7 @@ pub record MendedRun : Type 0 where
   -- the word that is remembered of frame 2 is the mended one, that which was written
   pub remembers : sinkEnd newSink firstTwo .word ≡ Word (wordBy 102 118)
   -- a sink in step stays so; with mending off a wrong bit puts it back to hunting
-  pub step-holds : (x : SourceStep) → Nth (sourceSteps source sendings) 1 x → inStep .count ≡ Known (x .state .count)
+  pub step-holds : Held (sourceSteps source sendings) 1 inStep
   pub step-reads : Reads mends (sourceSteps source sendings) (OneWrong mends) 1 6 inStep (hearings mends)
   pub step-answers : answers (sinkSteps inStep (hearings mends)) ≡ says TRACKED 4 ∷ says TRACKED 6 ∷ says TRACKED 5 ∷ says TRACKED 3 ∷ says READ 3 ∷ says READ 7 ∷ []
   pub off-answers : answers (sinkSteps inStep (hearings small)) ≡ says TRACKED 4 ∷ silent BADCHECK ∷ silent BADCHECK ∷ silent WAITING ∷ silent BADCHECK ∷ says READ 7 ∷ []

@@ -60,7 +60,7 @@ rightCord s =
     ∷ tell 513 s (typed 0) tt
     ∷ []
 
--- the swapped cord: the same frames of another client, of type 5
+-- the swapped cord: frames numbered 0, 256, 512 and 513 of another client, of type 5
 abbrev pub swappedCord : Settings → List SinkCall
 swappedCord s = tell 0 s (typed 5) tt ∷ tell 256 s (typed 5) tt ∷ tell 512 s (typed 5) tt ∷ tell 513 s (typed 0) tt ∷ []
 

@@ -67,7 +67,7 @@ others-client k C bytes bytes′ e h =
     let d = same-part (3 * (k + 2) + 2) k bytes bytes′ e (λ i low high. h i (λ z. omega arith) (λ z. omega arith) (λ z. omega arith)) in
     ap (chosen C (payloadBytes k) 0) (ap₂ _++_ a (ap₂ _++_ b (ap₂ _++_ c d)))
 
--- and so does the PSI byte not
+-- nor does the PSI byte
 pub others-psi : (k : ℕ) (bytes bytes′ : List ℕ) → OthersSame k bytes bytes′ → psiOf k bytes ≡ psiOf k bytes′
 others-psi k bytes bytes′ h = h (3 * k + 6) (λ z. omega arith) (λ z. omega arith) (λ z. omega arith)
 

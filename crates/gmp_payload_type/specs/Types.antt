@@ -34,9 +34,14 @@ acceptedAfter (Twice j) a k = cond (eqb j k) (PayloadType k) a
 unfoldable pub judged : Types → ℕ → Types
 judged t k = record { accepted = acceptedAfter (t .seen) (t .accepted) k; seen = seenAfter (t .seen) k }
 
--- a frame numbered 0; a larger number than 255 is taken modulo 256, as the source takes it
+-- the multiframe number that a call is told: a larger one than 255 is taken modulo 256, as the
+-- source takes it
+abbrev pub numberTold : Expected → ℕ
+numberTold e = e .multiframe % 256
+
+-- a frame numbered 0
 abbrev pub numberedZero : Expected → Bool
-numberedZero e = eqb (e .multiframe % 256) 0
+numberedZero e = eqb (numberTold e) 0
 
 -- "In frames numbered 0 the PSI byte is read"; "off, .. what is remembered of types stays"
 unfoldable pub typesAfter : Bool → Types → Expected → ℕ → Types

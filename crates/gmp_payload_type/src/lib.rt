@@ -40,8 +40,8 @@ pub fn new_types() -> Types
     }
 }
 
-// Whether the client bytes of a frame may be handed out: always where the check is off, and else
-// where the accepted type is the expected one.
+// Whether the client bytes of a frame may be handed out: always where the type check is off, and
+// else where the accepted type is the expected one.
 pub fn gate_open(type_check: bool, types: Types, expected: Expected) -> bool
     ensures { λ r. ⌜ r ≡ gateOpen «type_check» types expected ⌝ }
 {
@@ -55,8 +55,8 @@ pub fn gate_open(type_check: bool, types: Types, expected: Expected) -> bool
     kept == expected.payload_type
 }
 
-// What is remembered of types after a frame with this PSI byte, which is judged where the check is
-// on and the frame is numbered 0.
+// What is remembered of types after a frame with this PSI byte, which is judged where the type
+// check is on and the frame is numbered 0.
 pub fn read_psi(type_check: bool, types: Types, expected: Expected, psi: u8) -> Types
     ensures { λ r. ⌜ r ≡ typesAfter «type_check» types expected psi ⌝ }
 {

@@ -16,9 +16,9 @@ use Rattle.gmp_crc8.proofs.Laws.{off-by-check}
 use Rattle.gmp_settings.specs.declared.Settings.{Settings}
 use Rattle.gmp_refusal.specs.declared.Refusal.{Refusal}
 use Rattle.gmp_settings.specs.Grid.{payloadBytes, frameBytes}
-use Rattle.refusals.specs.Table.{accepted, refused}
+use Rattle.refusals.specs.Table.{accepted, refused, answerBy}
 use Rattle.gmp_refusal.specs.Refusal.{refusalNumber}
-use Rattle.gmp_settings.specs.Settings.{outside}
+use Rattle.gmp_settings.specs.Settings.{withTypeCheck, outside}
 use Rattle.gmp_settings.specs.Patterns.{badPatterns}
 use Rattle.gmp_port.specs.Port.{badPort}
 use Rattle.refusals.proofs.Laws.{none-applies}
@@ -31,7 +31,7 @@ use Rattle.gmp_standing.specs.Known.{inWindow}
 use Rattle.gmp_control.specs.declared.Remembered.{Remembered}
 use Rattle.gmp_control.specs.declared.Remembered.the-variants.{Word, Nothing}
 use Rattle.gmp_control.specs.Word.{wordBy}
-use Rattle.gmp_control.specs.Follow.{usable, found}
+use Rattle.gmp_control.specs.Follow.{usable, reading, windowedBy, windowed, foundBy, found}
 use Rattle.gmp_control.specs.Pattern.{tableOf}
 use Rattle.gmp_control.proofs.Named.{never-bad-check}
 use Rattle.gmp_frame.specs.declared.Control.{Control}
@@ -44,7 +44,7 @@ use Rattle.gmp_payload_type.proofs.Laws.{open-off, types-off}
 use Rattle.gmp_sink.specs.declared.SinkState.{SinkState}
 use Rattle.gmp_sink.specs.declared.SinkAnswer.the-variants.{Done, Refused}
 use Rattle.gmp_sink.specs.declared.SinkResult.{SinkResult}
-use Rattle.gmp_sink.specs.Sink.{newSink, sinkReasons, sinkRefusal, handed, released, readingOf, standingBy, standingAfter, wordAfter, stateAfter, withTypes, frameAfter, isMended, mendedIn, answerMeaning, sinkAnswer, sinkState, sinkMended, sinkHanded, sinkOut, SinkPromise, UncheckedAsBefore, AnyPort, Accepted, AcceptedPromise, HandsOut, OffAsBefore}
+use Rattle.gmp_sink.specs.Sink.{newSink, sinkReasons, sinkRefusal, handed, released, readingOf, standingBy, standingAfter, wordAfter, stateAfter, withTypes, frameAfter, isMended, mendedIn, answerMeaning, sinkAnswer, sinkState, sinkMended, sinkHanded, sinkOut, SinkPromise, UncheckedAsBefore, CountsFollowed, AnyPort, Accepted, AcceptedPromise, HandsOut, OffAsBefore}
 
 -- a call that no number turns back, and its port
 accepted-all : (s : Settings) (f o p : ℕ) → sinkRefusal s f o p ≡ 0 → Accepted s f o × (badPort p ≡ false)
@@ -112,7 +112,7 @@ module _ (s : Settings) (z : SinkState) (frame : List ℕ) where
     unfolding released
     released-shut e = rw e
 
-    -- with the check off it is open, and the types stay
+    -- with the type check off it is open, and the types stay
     pub released-off : s .«type_check» ≡ false → released s z w frame ≡ handed s z frame
     released-off off = released-open (ap (λ (b : Bool). gateOpen b (z .types) w) off ∙ open-off (z .types) w)
 
@@ -147,6 +147,23 @@ module _ (s : Settings) (z : SinkState) (frame : List ℕ) where
       pub out-refused : (sinkRefusal s (length frame) (length out) p ≡ 0 → ⊥) → sinkOut s z w frame out p ≡ out
       unfolding sinkOut
       out-refused h = ap (λ (l : List ℕ). l ++ drop (length l) out) (handed-refused h)
+
+      -- the count and the word that a call leaves
+      count-of-call : sinkState s z w frame out p .count ≡ cond (eqb (sinkRefusal s (length frame) (length out) p) 0) (standingAfter s z (controlOf (s .k) frame) .count) (z .count)
+      unfolding sinkState stateAfter
+      count-of-call = by (eqb (sinkRefusal s (length frame) (length out) p) 0)
+        where
+          by : (b : Bool) → cond b (frameAfter s z w frame) z .count ≡ cond b (standingAfter s z (controlOf (s .k) frame) .count) (z .count)
+          by true = refl
+          by false = refl
+
+      word-of-call : sinkState s z w frame out p .word ≡ cond (eqb (sinkRefusal s (length frame) (length out) p) 0) (wordAfter (readingOf s (controlOf (s .k) frame))) (z .word)
+      unfolding sinkState stateAfter
+      word-of-call = by (eqb (sinkRefusal s (length frame) (length out) p) 0)
+        where
+          by : (b : Bool) → cond b (frameAfter s z w frame) z .word ≡ cond b (wordAfter (readingOf s (controlOf (s .k) frame))) (z .word)
+          by true = refl
+          by false = refl
 
       unchecked-state : s .«type_check» ≡ false
           → sinkState s z w frame out p ≡ cond (eqb (sinkRefusal s (length frame) (length out) p) 0) (stateAfter s z (controlOf (s .k) frame)) z
@@ -307,6 +324,69 @@ any-port =
       mended = λ s frame out p q e. any-mended s p q e frame out;
       handed-bytes = λ s z w frame out p q e. any-handed s p q e z frame out w;
       out-buffer = λ s z w frame out p q e. any-out s p q e z frame out w;
+    }
+
+-- The type check is not looked at where a count is followed.
+module _ (s : Settings) (b : Bool) where
+  unchecked-window : (c : Count) → inWindow (withTypeCheck s b) c ≡ inWindow s c
+  unfolding inWindow outside
+  unchecked-window (Known n) = refl
+  unchecked-window Unknown = refl
+
+  unchecked-windowed : (f : Finding) (c : Count) → windowedBy (withTypeCheck s b) f c ≡ windowedBy s f c
+  unfolding outside
+  unchecked-windowed f (Known n) = refl
+  unchecked-windowed f Unknown = refl
+
+  unchecked-found : (c : Count) (before : Remembered) (w : ℕ) → found (withTypeCheck s b) c before w ≡ found s c before w
+  unfolding foundBy tableOf
+  unchecked-found c before w =
+      let f : Finding = reading (tableOf s) (inWindow s c) (usable before) w in
+      ap (λ (k : Count). windowed (withTypeCheck s b) (reading (tableOf s) k (usable before) w)) (unchecked-window c) ∙ unchecked-windowed f (f .count)
+
+  module _ (z : SinkState) (t : Types) where
+    followed-by : (r : Reading) → standingBy (withTypeCheck s b) (withTypes z t) r ≡ standingBy s z r
+    followed-by (Whole w) = unchecked-found (z .count) (z .word) (wordBy (w .jc1) (w .jc2))
+    followed-by (Mended w) = unchecked-found (z .count) (z .word) (wordBy (w .jc1) (w .jc2))
+    followed-by Bad = refl
+
+    followed-standing : (c : Control) → standingAfter (withTypeCheck s b) (withTypes z t) c ≡ standingAfter s z c
+    unfolding standingAfter
+    followed-standing c = followed-by (readingOf s c)
+
+  followed-refusal : (f o p : ℕ) → sinkRefusal (withTypeCheck s b) f o p ≡ sinkRefusal s f o p
+  unfolding sinkRefusal
+  followed-refusal f o p = refl
+
+  followed-mended : (frame out : List ℕ) (p : ℕ) → sinkMended (withTypeCheck s b) frame out p ≡ sinkMended s frame out p
+  unfolding sinkMended mendedIn
+  followed-mended frame out p = ap (λ (n : ℕ). cond (eqb n 0) (mendedIn s (controlOf (s .k) frame)) false) (followed-refusal (length frame) (length out) p)
+
+  module _ (z : SinkState) (t : Types) (frame out : List ℕ) (p : ℕ) where
+    followed-answer : sinkAnswer (withTypeCheck s b) (withTypes z t) frame out p ≡ sinkAnswer s z frame out p
+    unfolding sinkAnswer
+    followed-answer = ap₂ answerBy (followed-refusal (length frame) (length out) p) (followed-standing z t (controlOf (s .k) frame))
+
+    followed-count : (w v : Expected) → sinkState (withTypeCheck s b) (withTypes z t) w frame out p .count ≡ sinkState s z v frame out p .count
+    followed-count w v =
+        count-of-call (withTypeCheck s b) (withTypes z t) frame w out p
+        ∙ ap₂ (λ (n : ℕ) (f : Finding). cond (eqb n 0) (f .count) (z .count)) (followed-refusal (length frame) (length out) p) (followed-standing z t (controlOf (s .k) frame))
+        ∙ sym (count-of-call s z frame v out p)
+
+    followed-word : (w v : Expected) → sinkState (withTypeCheck s b) (withTypes z t) w frame out p .word ≡ sinkState s z v frame out p .word
+    followed-word w v =
+        word-of-call (withTypeCheck s b) (withTypes z t) frame w out p
+        ∙ ap (λ (n : ℕ). cond (eqb n 0) (wordAfter (readingOf s (controlOf (s .k) frame))) (z .word)) (followed-refusal (length frame) (length out) p)
+        ∙ sym (word-of-call s z frame v out p)
+
+pub counts-followed : CountsFollowed
+counts-followed =
+    record {
+      refusal = followed-refusal;
+      answer = followed-answer;
+      mended = followed-mended;
+      count = λ s b z t w v frame out p. followed-count s b z t frame out p w v;
+      word = λ s b z t w v frame out p. followed-word s b z t frame out p w v;
     }
 
 -- With mending off a reading goes by the check alone.

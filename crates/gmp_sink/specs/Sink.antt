@@ -16,7 +16,7 @@ use Rattle.gmp_settings.specs.declared.Settings.{Settings}
 use Rattle.gmp_settings.specs.Grid.{frameBytes}
 use Rattle.refusals.specs.Table.{Reason, reason, lowest, Answer, accepted, refused, answerBy}
 use Rattle.gmp_refusal.specs.Refusal.{refusalNumber}
-use Rattle.gmp_settings.specs.Settings.{Fit, settingsReasons}
+use Rattle.gmp_settings.specs.Settings.{Fit, settingsReasons, withTypeCheck}
 use Rattle.gmp_settings.specs.Patterns.{badPatterns}
 use Rattle.gmp_port.specs.Port.{badPort}
 use Rattle.gmp_standing.specs.declared.Count.{Count}
@@ -100,7 +100,8 @@ abbrev pub withTypes : SinkState → Types → SinkState
 withTypes z t = record { count = z .count; word = z .word; types = t }
 
 -- the state after a frame: after its control bytes, and then after its PSI byte (01, "the sink
--- ignores them and the PSI byte", which 02, P4 replaces for the PSI byte where the check is on)
+-- ignores them and the PSI byte", which 02, P4 replaces for the PSI byte where the type check is
+-- on)
 abbrev pub frameAfter : Settings → SinkState → Expected → List ℕ → SinkState
 frameAfter s z e frame =
     withTypes (stateAfter s z (controlOf (s .k) frame)) (typesAfter (s .«type_check») (z .types) e (psiOf (s .k) frame))
@@ -158,8 +159,8 @@ pub record SinkPromise (s : Settings) (z : SinkState) (e : Expected) (frame out 
   pub out-buffer : after ≡ sinkOut s z e frame out port
 
 -- "off, all is as before and what is remembered of types stays" (02, P4). What a call hands out and
--- the state after it are what they were without the check, whatever was expected; what it answers
--- and mends does not look at the type at all.
+-- the state after it are what they were without the type check, whatever was expected; what it
+-- answers and mends does not look at the type at all.
 pub record UncheckedAsBefore : Type 0 where
   pub state : (s : Settings) (z : SinkState) (e : Expected) (frame out : List ℕ) (port : ℕ) → s .«type_check» ≡ false
       → sinkState s z e frame out port ≡ cond (eqb (sinkRefusal s (length frame) (length out) port) 0) (stateAfter s z (controlOf (s .k) frame)) z
@@ -167,6 +168,19 @@ pub record UncheckedAsBefore : Type 0 where
       → sinkState s z e frame out port .types ≡ z .types
   pub handed-bytes : (s : Settings) (z : SinkState) (e : Expected) (frame out : List ℕ) (port : ℕ) → s .«type_check» ≡ false
       → sinkHanded s z e frame out port ≡ cond (eqb (sinkRefusal s (length frame) (length out) port) 0) (handed s z frame) []
+
+-- "though counts are followed" (02, P4). Whether the type is checked, what is remembered of types
+-- and what is expected have no part in why a call is turned back, in what it answers and mends, and
+-- in the count and the word that it leaves.
+pub record CountsFollowed : Type 0 where
+  pub refusal : (s : Settings) (b : Bool) (frameLength outLength port : ℕ) → sinkRefusal (withTypeCheck s b) frameLength outLength port ≡ sinkRefusal s frameLength outLength port
+  pub answer : (s : Settings) (b : Bool) (z : SinkState) (t : Types) (frame out : List ℕ) (port : ℕ)
+      → sinkAnswer (withTypeCheck s b) (withTypes z t) frame out port ≡ sinkAnswer s z frame out port
+  pub mended : (s : Settings) (b : Bool) (frame out : List ℕ) (port : ℕ) → sinkMended (withTypeCheck s b) frame out port ≡ sinkMended s frame out port
+  pub count : (s : Settings) (b : Bool) (z : SinkState) (t : Types) (e e′ : Expected) (frame out : List ℕ) (port : ℕ)
+      → sinkState (withTypeCheck s b) (withTypes z t) e frame out port .count ≡ sinkState s z e′ frame out port .count
+  pub word : (s : Settings) (b : Bool) (z : SinkState) (t : Types) (e e′ : Expected) (frame out : List ℕ) (port : ℕ)
+      → sinkState (withTypeCheck s b) (withTypes z t) e frame out port .word ≡ sinkState s z e′ frame out port .word
 
 -- Two ports that number 10 turns back both or neither are alike to a call: its answer, the state
 -- and the output buffer after it, what it mends and hands out are the same on the one as on the

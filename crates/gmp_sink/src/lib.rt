@@ -7,7 +7,7 @@ use gmp_refusal::Refusal;
 use gmp_standing::Count;
 use gmp_standing::Standing;
 ghost use mathlib.Core.Path.{_≡_};
-ghost use Rattle.gmp_sink.specs.Sink.{newSink, AnyPort, OffAsBefore, UncheckedAsBefore};
+ghost use Rattle.gmp_sink.specs.Sink.{newSink, AnyPort, OffAsBefore, UncheckedAsBefore, CountsFollowed};
 
 // A known count or none, a remembered word or none, and what is remembered of payload types.
 pub struct SinkState {
@@ -58,6 +58,12 @@ pub fn any_port()
 // it, whatever was expected, and what is remembered of types stays.
 pub fn unchecked_as_before()
     ensures { λ _. ⌜ UncheckedAsBefore ⌝ }
+{}
+
+// Counts are followed whatever the types are: the type check, what is remembered of types and what
+// is expected have no part in the answer of a call and in the count and the word that it leaves.
+pub fn counts_followed()
+    ensures { λ _. ⌜ CountsFollowed ⌝ }
 {}
 
 // With mending off the control bytes lead where 01's rules lead, and nothing is mended.

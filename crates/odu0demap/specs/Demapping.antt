@@ -84,14 +84,12 @@ isSame d f = eqb (standingNumber (f .name)) (d .last) && sameCount (f .count) (d
 abbrev pub isSilent : Demapper → Finding → Bool → Bool
 isSilent d f mended = cond mended false (isSame d f)
 
--- an accepted type as a number, with 256, which is no type, for none
-abbrev pub typeNumber : AcceptedType → ℕ
-typeNumber (PayloadType n) = n
-typeNumber NoType = 256
-
--- the sink has accepted the same type before and after a frame, or none both times
-abbrev pub sameType : Demapper → Demapper → Bool
-sameType d e = eqb (typeNumber (d .state .types .accepted)) (typeNumber (e .state .types .accepted))
+-- two accepted types are the same, or there is none both times
+abbrev pub sameType : AcceptedType → AcceptedType → Bool
+sameType (PayloadType n) (PayloadType m) = eqb n m
+sameType (PayloadType n) NoType = false
+sameType NoType (PayloadType m) = false
+sameType NoType NoType = true
 
 -- what is gone on from
 abbrev pub Goes : Wanted → Demapper → List ℕ → Next → Type 0

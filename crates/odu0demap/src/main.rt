@@ -21,7 +21,7 @@ ghost use mathlib.Core.Path.{_≡_};
 ghost use Prim.Native.Nat.{_≤_};
 ghost use lib.ListN.{length};
 ghost use Rattle.gmp_standing.specs.Standing.{standingMeaning};
-ghost use Rattle.odu0demap.specs.Demapping.{isWord, newDemapper, sameCount, isSame, isSilent, typeNumber, sameType, Goes, GoesOn, DemapsAll, Takes};
+ghost use Rattle.odu0demap.specs.Demapping.{isWord, newDemapper, sameCount, isSame, isSilent, sameType, Goes, GoesOn, DemapsAll, Takes};
 
 // What the arguments ask for: mending, the type check, and the type expected.
 struct Wanted {
@@ -82,7 +82,7 @@ fn read_arguments() -> Asked {
     read_type(false, 1)
 }
 
-// Whether the arguments from i on, if there are any, ask for the check of a type.
+// What the arguments ask for: those from i on, if there are any, for the type check.
 fn read_type(mending: bool, i: usize) -> Asked
     requires { ⌜ i ≤ 2 ⌝ }
 {
@@ -222,7 +222,7 @@ fn take_frame(wanted: Wanted, frame_number: u64, demapper: Demapper, frame: &[u8
     let bytes = &out[..taken.handed as usize];
     if program_stream::write_out(bytes, b"odu0demap: standard output") {
         show_change(frame_number, demapper, standing, taken.mended);
-        show_type(frame_number, demapper, after);
+        show_type(frame_number, accepted_type(demapper), accepted_type(after));
         return Next::From(after);
     }
     Next::End
@@ -283,13 +283,16 @@ fn show_change(frame_number: u64, before: Demapper, standing: Standing, mended: 
     show_mended(mended);
 }
 
-// Says the accepted type where it is another than before the frame.
-fn show_type(frame_number: u64, before: Demapper, after: Demapper) {
+// Says the accepted type where there is one, and it is another than before the frame.
+fn show_type(frame_number: u64, before: AcceptedType, after: AcceptedType) {
     if is_same_type(before, after) {
         return;
     }
+    let AcceptedType::PayloadType(accepted) = after else {
+        return;
+    };
     program_stream::say(b"frame ", frame_number);
-    program_stream::say_line(b": accepted type ", type_number(after) as u64);
+    program_stream::say_line(b": accepted type ", accepted as u64);
 }
 
 // Writes the count found behind the name, or "-" where there is none.
@@ -350,26 +353,29 @@ fn is_same_count(one: Count, other: Count) -> bool
     n == m
 }
 
-// Whether the sink has accepted the same type before and after a frame, or none both times.
-fn is_same_type(before: Demapper, after: Demapper) -> bool
-    ensures { λ r. ⌜ r ≡ sameType before after ⌝ }
+// Whether two accepted types are the same, or there is none both times.
+fn is_same_type(one: AcceptedType, other: AcceptedType) -> bool
+    ensures { λ r. ⌜ r ≡ sameType one other ⌝ }
 {
-    let earlier = type_number(before);
-    let later = type_number(after);
+    let AcceptedType::PayloadType(earlier) = one else {
+        let AcceptedType::PayloadType(_) = other else {
+            return true;
+        };
+        return false;
+    };
+    let AcceptedType::PayloadType(later) = other else {
+        return false;
+    };
     earlier == later
 }
 
-// The type that a demapper's sink has accepted, or 256 where there is none.
-fn type_number(demapper: Demapper) -> u32
-    ensures { λ r. ⌜ r ≡ typeNumber (demapper .state .types .accepted) ⌝ }
+// The type that a demapper's sink has accepted, or none.
+fn accepted_type(demapper: Demapper) -> AcceptedType
+    ensures { λ r. ⌜ r ≡ demapper .state .types .accepted ⌝ }
 {
     let state = demapper.state;
     let types = state.types;
-    let accepted = types.accepted;
-    match accepted {
-        AcceptedType::PayloadType(n) => n as u32,
-        AcceptedType::NoType => 256,
-    }
+    types.accepted
 }
 
 // Writes the name of a standing to standard error.

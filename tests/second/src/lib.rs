@@ -6,8 +6,9 @@
 //! rule of given patterns is asked at each bit, the sink is the paper's rules 1 to 3 one after the
 //! other, the accepted type is looked up in a book of all types judged, and the card's tallies are
 //! worked out from a book of all accepted calls. Where the paper is silent it goes by odu0.h: a
-//! multiframe number above 255 is taken modulo 256. Of a remembered word only the 16 bits that a
-//! word has are looked at.
+//! multiframe number above 255 is taken modulo 256; the PSI byte of a BADCHECK frame is judged too,
+//! and calls that are refused or have the type check off neither count nor end a run of types. Of a
+//! remembered word only the 16 bits that a word has are looked at.
 
 mod random;
 
@@ -780,14 +781,14 @@ mod tests {
         assert_eq!(call(on, 0, 7), (0, None));
         assert_eq!(call(on, 1, 0), (0, None));
         assert_eq!(call(on, 256, 7), (0, None));
-        // Frames with the check off are handed out, and neither count nor end the run.
+        // Frames with the type check off are handed out, and neither count nor end the run.
         let off = Settings { type_check: false, ..on };
         assert_eq!(call(off, 0, 9), (4, None));
         assert_eq!(call(off, 0, 7), (4, None));
         // The third: its own bytes are not handed out yet.
         assert_eq!(call(on, 512, 7), (0, Some(7)));
         assert_eq!(call(on, 513, 0), (4, Some(7)));
-        // Another type twice, and with the run ended three times: its third frame is handed out.
+        // Another type twice, and after a break three times: its third frame is handed out still.
         assert_eq!(call(on, 0, 0), (4, Some(7)));
         assert_eq!(call(on, 0, 0), (4, Some(7)));
         assert_eq!(call(on, 0, 5), (4, Some(7)));

@@ -508,6 +508,19 @@ fn types_seen_before() {
     takes_types(&mut held(Some(7), Twice(9)), &calls);
 }
 
+/// Each call goes by the type that it is told itself.
+#[test]
+fn another_type_is_expected() {
+    let on = EIGHT.with_type_check();
+    let mut sink = Sink { count: Some(4), accepted: Some(7), ..Sink::new() };
+    let mut tallies = Tallies::new();
+    for (payload_type, handed) in [(7, 4), (5, 0), (7, 4), (0, 0), (255, 0), (7, 4)] {
+        let expected = Expected { multiframe: 1, payload_type };
+        let taken = sink.call(on, expected, &at_four(0), &mut [0; 8], 1, &mut tallies);
+        assert_eq!((taken.unwrap().handed, sink.accepted), (handed, Some(7)));
+    }
+}
+
 /// With the type check off bytes are handed out whatever the type, and what is remembered of types
 /// stays, so that a run goes on behind.
 #[test]

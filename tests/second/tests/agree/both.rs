@@ -38,6 +38,18 @@ pub struct Done {
     pub kept_back: u64,
 }
 
+/// What an accepted call of a sink comes to.
+#[derive(Clone, Debug, PartialEq, Eq)]
+pub struct Outcome {
+    pub taken: Taken,
+    pub state: Sink,
+    pub out: Vec<u8>,
+    pub tally: Tally,
+}
+
+/// What the tally is before it.
+pub const TALLY: Tally = Tally { frames: 30, bad: 20, bytes: 10 };
+
 /// One case of a test, with what is needed to run it again.
 pub struct Case {
     pub random: Random,
@@ -226,6 +238,21 @@ impl Case {
         let answer = self.sink_on(settings, state, frame, out, port, &mut card);
         *tally = card.tally(port);
         answer
+    }
+
+    /// What an accepted call of a sink in this state comes to, where the output buffer has one byte
+    /// more than hi.
+    pub fn outcome(
+        &mut self,
+        settings: Settings,
+        state: &Sink,
+        told: Expected,
+        frame: &[u8],
+    ) -> Outcome {
+        let (mut state, mut tally) = (state.clone(), TALLY);
+        let mut out = vec![0x5A; settings.hi as usize + 1];
+        let answer = self.told(told).sink(settings, &mut state, frame, &mut out, &mut tally);
+        Outcome { taken: answer.unwrap(), state, out, tally }
     }
 
     /// A sink's call that names its port, which may be none of the card's.

@@ -183,7 +183,8 @@ fn fields_of_calls_turned_back() {
     assert_eq!((reply.refusal, reply.count, reply.remainder), (5, 0, 1296));
 }
 
-/// Where each field of the Rust declarations stands, by the offsets of odu0.h's on x86-64.
+/// Where each field of the Rust declarations stands on x86-64; tests/layout.c says the same of
+/// those of odu0.h.
 #[test]
 fn layouts() {
     use ffi::{KeeperReply, Settings, Sink, SinkReply, SourceReply};
@@ -234,6 +235,25 @@ fn layouts() {
     assert_eq!(sizes, [40, 28, 8]);
     let sizes = [size_of::<SinkReply>(), size_of::<SourceReply>(), size_of::<KeeperReply>()];
     assert_eq!(sizes, [52, 16, 12]);
+}
+
+/// Of what is expected 24 bits are padding, and they do not matter.
+#[test]
+fn padding_of_what_is_expected() {
+    let on = fields_of(Settings::new(2, 0, 8).with_type_check());
+    let state = ffi::Sink { known: 1, count: 5, accepted: 1, accepted_type: 7, ..NEW };
+    for (filler, payload_type) in [0, 1, 0xFF_FFFF, 0x80_0000, 0xA5_A5A5]
+        .into_iter()
+        .flat_map(|filler| [(filler, 7), (filler, 8)])
+    {
+        let bits: u64 = filler << 40 | payload_type << 32 | 256;
+        // SAFETY: both have 8 bytes, and every bit is that of a number or of none.
+        let told: odu0::Expected = unsafe { std::mem::transmute(bits) };
+        let reply = reply(on, state, told, &[0; 16], 8, 1).0;
+        let handed = if payload_type == 7 { 5 } else { 0 };
+        assert_eq!((reply.refusal, reply.handed), (0, handed), "{filler:x}, {payload_type}");
+        assert_eq!((reply.state.seen, reply.state.seen_type), (1, 0), "{filler:x}");
+    }
 }
 
 /// What each port's tally is before.

@@ -1,7 +1,7 @@
 //! One wrong control bit mended (02, P1): "a remainder equal to that of one wrong bit among the 24
 //! has that bit flipped before reading". agree/words.rs reads every word of 24 bits so.
 
-use crate::both::{cases, settings_of, Case, ANY};
+use crate::both::{cases, settings_of, Case, Outcome, ANY, TALLY};
 use crate::fields::{fields_of, reply, BEFORE, NEW};
 use crate::given::*;
 use crate::runs::{off_the_card, source_run, watch, Written};
@@ -56,26 +56,8 @@ fn sinks(random: &mut Random, settings: Settings, old: u32, this: u32) -> [Sink;
     ]
 }
 
-/// What a call of a sink comes to.
-#[derive(Clone, Debug, PartialEq, Eq)]
-struct Outcome {
-    taken: Taken,
-    state: Sink,
-    out: Vec<u8>,
-    tally: Tally,
-}
-
-const TALLY: Tally = Tally { frames: 30, bad: 20, bytes: 10 };
-
 /// What all these calls are told, so that two of them may be compared with the type check on too.
 const TOLD: Expected = Expected { multiframe: 0, payload_type: 7 };
-
-fn outcome(case: &mut Case, settings: Settings, state: &Sink, frame: &[u8]) -> Outcome {
-    let (mut state, mut tally) = (state.clone(), TALLY);
-    let mut out = vec![0x5A; settings.hi as usize + 1];
-    let taken = case.told(TOLD).sink(settings, &mut state, frame, &mut out, &mut tally).unwrap();
-    Outcome { taken, state, out, tally }
-}
 
 impl Outcome {
     /// What is promised of a frame of which this is the outcome where it comes unharmed, if its
@@ -112,13 +94,14 @@ fn read_wrong(case: &mut Case, settings: Settings, old: u32, errors: &[u32], whi
         let sinks = sinks(&mut case.random, settings, old, bits >> 8);
         for sink in sinks.into_iter().filter(which) {
             put_control(settings, &mut frame, bytes(bits));
-            let whole = outcome(case, off, &sink, &frame);
+            let whole = case.outcome(off, &sink, TOLD, &frame);
             assert!(!whole.taken.mended && whole.taken.standing != Standing::BadCheck);
-            assert_eq!(outcome(case, on, &sink, &frame), whole);
+            assert_eq!(case.outcome(on, &sink, TOLD, &frame), whole);
             for wrong in errors {
                 let said = || format!("{settings:?}, {sink:?}, {old} to {next}, wrong {wrong:06X}");
                 put_control(settings, &mut frame, bytes(bits ^ wrong));
-                let outcomes = [off, on].map(|settings| outcome(case, settings, &sink, &frame));
+                let outcomes =
+                    [off, on].map(|settings| case.outcome(settings, &sink, TOLD, &frame));
                 match (wrong.count_ones(), read(on, bytes(bits ^ wrong))) {
                     (1, _) => assert_eq!(outcomes, [whole.bad(), whole.mended()], "{}", said()),
                     (2, _) | (3, None) => {
@@ -210,7 +193,7 @@ fn errors_that_are_not_found() {
         let mut passing = |settings: Settings, many| {
             let passes = |bits: &u32| {
                 put_control(settings, &mut frame, bytes(*bits));
-                let taken = outcome(case, settings, &Sink::new(), &frame).taken;
+                let taken = case.outcome(settings, &Sink::new(), TOLD, &frame).taken;
                 assert_eq!(taken.mended, many % 2 == 1 && taken.standing != Standing::BadCheck);
                 taken.standing != Standing::BadCheck
             };
@@ -233,7 +216,7 @@ fn a_false_count_beyond_the_budget() {
         assert_eq!(control_bytes(EIGHT).map(|at| frame[at]), [0, 0, 0]);
         let mut after = |settings: Settings, control| {
             put_control(settings, &mut frame, control);
-            let Outcome { taken, state, .. } = outcome(case, settings, &Sink::new(), &frame);
+            let Outcome { taken, state, .. } = case.outcome(settings, &Sink::new(), TOLD, &frame);
             (taken.standing, taken.mended, state.count)
         };
         let on = EIGHT.with_mending();
@@ -322,8 +305,8 @@ fn as_if_unharmed(case: &mut Case, settings: Settings, frames: usize) {
     let trouble = case.random.of(&[1, 2, 6]);
     for (n, Written { frame, next, .. }) in (1..).zip(&written) {
         let (harmed, wrong) = arriving(&mut case.random, settings, frame, trouble);
-        let wanted = outcome(case, on, &unharmed, frame);
-        let outcome = outcome(case, on, &sink, &harmed);
+        let wanted = case.outcome(on, &unharmed, TOLD, frame);
+        let outcome = case.outcome(on, &sink, TOLD, &harmed);
         assert!(!wanted.taken.mended);
         assert_eq!(outcome, if wrong { wanted.mended() } else { wanted.clone() }, "frame {n}");
         assert!(n < 2 || outcome.state.count == Some(*next), "after frame {n}");

@@ -1,6 +1,6 @@
 //! Whole runs of a source and its sinks, and demand 3 watched on them.
 
-use crate::both::{all_cases, cases, Case};
+use crate::both::{all_cases, cases, Case, Done};
 use crate::given::*;
 use second::{word, Card, Expected, Random, Settings, Sink, Standing, Taken, Tally, Types};
 
@@ -297,7 +297,12 @@ pub fn no_false_count(case: &mut Case, settings: Settings, frames: usize) {
 
 /// Watches a claim on so many source runs of small settings, from so many frames on, and every
 /// tenth time on OPU0's and on large settings too.
-pub fn watch(name: &'static str, runs: u64, least: u32, claim: fn(&mut Case, Settings, usize)) {
+pub fn watch(
+    name: &'static str,
+    runs: u64,
+    least: u32,
+    claim: fn(&mut Case, Settings, usize),
+) -> Done {
     cases(name, runs, |case| {
         let settings = small_settings(&mut case.random);
         let frames = case.random.from_to(least, 60) as usize;
@@ -308,7 +313,7 @@ pub fn watch(name: &'static str, runs: u64, least: u32, claim: fn(&mut Case, Set
             let settings = large_settings(&mut case.random);
             claim(case, settings, 6);
         }
-    });
+    })
 }
 
 #[test]

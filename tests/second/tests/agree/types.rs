@@ -3,39 +3,15 @@
 //! the accepted type is none or not the expected one, no bytes are handed out, though counts are
 //! followed."
 
-use crate::both::{all_cases, cases, settings_of, Case};
+use crate::both::{all_cases, cases, settings_of, Case, Outcome, TALLY};
 use crate::fields::{fields_of, reply, BEFORE, NEW};
 use crate::given::*;
 use crate::mending::arriving;
-use crate::runs::{off_the_card, source_run, Written};
+use crate::runs::{off_the_card, source_run, watch, Written};
 use odu0::ffi;
 use second::{word, Card, Expected, Random, Settings, Sink, Standing, Taken, Tally, Types};
 
 const EIGHT: Settings = Settings::new(2, 0, 8);
-
-/// What a call of a sink comes to.
-#[derive(Clone, Debug, PartialEq, Eq)]
-struct Outcome {
-    taken: Taken,
-    state: Sink,
-    out: Vec<u8>,
-    tally: Tally,
-}
-
-const TALLY: Tally = Tally { frames: 30, bad: 20, bytes: 10 };
-
-fn outcome(
-    case: &mut Case,
-    settings: Settings,
-    state: &Sink,
-    told: Expected,
-    frame: &[u8],
-) -> Outcome {
-    let (mut state, mut tally) = (state.clone(), TALLY);
-    let mut out = vec![0x5A; settings.hi as usize + 1];
-    let taken = case.told(told).sink(settings, &mut state, frame, &mut out, &mut tally).unwrap();
-    Outcome { taken, state, out, tally }
-}
 
 /// A frame with control bytes that a sink in this state may follow, and this PSI byte.
 fn any_frame(random: &mut Random, settings: Settings, state: &Sink, psi: u8) -> Vec<u8> {
@@ -64,8 +40,8 @@ fn refused(case: &mut Case, settings: Settings, sink: &mut Sink, told: Expected,
 }
 
 /// The calls of a sink one after the other, with few types, so that the same one comes often.
-/// Refused calls and calls with the check off stand among them, and leave what is remembered of
-/// types.
+/// Refused calls and calls with the type check off stand among them, and leave what is remembered
+/// of types.
 #[test]
 fn types_call_after_call() {
     let done = cases("types_call_after_call", 6_000, |case| {
@@ -124,7 +100,7 @@ fn every_three_types_from_every_state() {
                         let told = Expected { multiframe, payload_type };
                         let before = types.accepted();
                         let Outcome { taken, state, out, tally } =
-                            outcome(case, on, &state, told, &frame);
+                            case.outcome(on, &state, told, &frame);
                         let handed = if before == Some(payload_type) { 5 } else { 0 };
                         assert_eq!(taken.handed, handed, "{types:?}, {told:?}");
                         assert!(handed == 5 || out == [0x5A; 9], "{types:?}, {told:?}");
@@ -156,7 +132,7 @@ fn numbers_that_are_0() {
             let types = Types::with(None, &[9, 9]);
             let state = Sink { types, ..Sink::new() };
             let told = Expected { multiframe, payload_type: 9 };
-            let after = outcome(case, on, &state, told, &frame).state.types.accepted();
+            let after = case.outcome(on, &state, told, &frame).state.types.accepted();
             let is_0 = multiframe.trailing_zeros() >= 8;
             assert_eq!(after, is_0.then_some(9), "{multiframe}");
             judged += u32::from(is_0);
@@ -180,7 +156,7 @@ fn the_byte_that_is_judged() {
             for at in all {
                 let mut frame = vec![0x55; 4 * row];
                 frame[at] = 0xAA;
-                let state = outcome(case, on, &Sink::new(), told, &frame).state;
+                let state = case.outcome(on, &Sink::new(), told, &frame).state;
                 let psi = if at == 3 * row { 0xAA } else { 0x55 };
                 assert_eq!(state.types, Types::with(None, &[psi]), "K = {k}, byte {at}");
             }
@@ -188,9 +164,9 @@ fn the_byte_that_is_judged() {
     });
 }
 
-/// The check keeps back bytes and does nothing else: the standing, the count, the word, whether a
-/// bit was mended, and the tally's frames and BADCHECK frames are those with the check off. With it
-/// off all is as with a sink that knows nothing of types, and what is remembered of them stays.
+/// The type check keeps back bytes and does nothing else: the standing, the count, the word,
+/// whether a bit was mended, and the tally's frames and BADCHECK frames are those with it off. With
+/// it off all is as with a sink that knows nothing of types, and what is remembered of them stays.
 #[test]
 fn on_beside_off() {
     let done = cases("on_beside_off", 60_000, |case| {
@@ -201,11 +177,11 @@ fn on_beside_off() {
         let psi = any_type(&mut case.random);
         let frame = any_frame(&mut case.random, on, &state, psi);
 
-        let [with, without] = [on, off].map(|of| outcome(case, of, &state, told, &frame));
+        let [with, without] = [on, off].map(|of| case.outcome(of, &state, told, &frame));
         assert_eq!(without.state.types, state.types);
         let other = any_expected(&mut case.random);
         let plain = Sink { types: Types::new(), ..state.clone() };
-        let plain = outcome(case, off, &plain, other, &frame);
+        let plain = case.outcome(off, &plain, other, &frame);
         let types = state.types.clone();
         assert_eq!(without, Outcome { state: Sink { types, ..plain.state }, ..plain });
 
@@ -226,7 +202,7 @@ fn on_beside_off() {
     assert!(done.let_through.min(done.kept_back) > 5_000 || !all_cases());
 }
 
-/// The run goes on over calls with the check off, refused calls and frames with other numbers,
+/// The run goes on over calls with the type check off, refused calls and frames with other numbers,
 /// whatever their PSI bytes are; and one frame that is lent three times is three frames.
 #[test]
 fn what_is_between_three_frames() {
@@ -273,9 +249,9 @@ fn needed(types: &Types, psi: u8) -> usize {
     3 - types.run().iter().filter(|seen| **seen == psi).count()
 }
 
-/// Demand 3 with the check on: a sink in any state reads the frames of a source in succession, told
-/// their own numbers and one expected type. It has the count after two frames. From the third on a
-/// frame hands out its load or nothing, by the type that the sink had accepted at first, until
+/// Demand 3 with the type check on: a sink in any state reads the frames of a source in succession,
+/// told their own numbers and one expected type. It has the count after two frames. From the third
+/// on a frame hands out its load or nothing, by the type that the sink had accepted at first, until
 /// enough frames numbered 0 have come; then by the source's. So once three have come it hands out
 /// its load if the source's type is the expected one, and nothing if it is another. With mending on
 /// frames have up to one wrong control bit.
@@ -339,6 +315,46 @@ fn demand_3_with_the_type_check() {
         }
     });
     assert!(done.let_through.min(done.kept_back) > 50_000 || !all_cases());
+}
+
+/// The first claim with the type check on, whatever the calls are told: the sink has the count
+/// after two frames, and from the third on a frame has the standing that it has with the type check
+/// off, and hands out its load or nothing.
+fn the_load_or_nothing(case: &mut Case, settings: Settings, frames: usize) {
+    let on = settings.with_type_check();
+    let written = source_run(case, on, frames);
+    // Frames are numbered from 1: frame n is written[n - 1].
+    let m = 1 + case.random.below(frames as u64 - 1) as usize;
+    let (mut sink, mut tally) = (any_sink(&mut case.random, on), Tally::default());
+    for n in m..=frames {
+        let Written { frame, load, next, .. } = &written[n - 1];
+        let standing = written[n - 1].followed(on);
+        let random = &mut case.random;
+        let mut told = any_expected(random);
+        if let (Some(accepted), true) = (sink.types.accepted(), random.once_in(2)) {
+            told.payload_type = accepted;
+        }
+        let before = random.bytes(on.hi as usize + 1);
+        let mut out = before.clone();
+        if random.once_in(16) {
+            refused(case, on, &mut sink, told, frame);
+        }
+        let taken = case.told(told).sink(on, &mut sink, frame, &mut out, &mut tally).unwrap();
+        assert!(n == m || sink.count == Some(*next), "after frame {n}, from frame {m}");
+        if n >= m + 2 {
+            let handed = taken.handed as usize;
+            assert_eq!((taken.standing, taken.mended), (standing, false), "frame {n}, from {m}");
+            assert!(handed == 0 || handed == load.len(), "frame {n}, from frame {m}");
+            assert!(out[..handed] == load[..handed], "load {n}, from frame {m}");
+            assert!(out[handed..] == before[handed..], "behind load {n}, from frame {m}");
+        }
+    }
+}
+
+#[test]
+fn demand_3_the_load_or_nothing() {
+    let done = watch("demand_3_the_load_or_nothing", 2_000, 2, the_load_or_nothing);
+    assert!(done.let_through.min(done.kept_back) > 5_000 || !all_cases());
 }
 
 /// A run over OPU0's frames at the rate of 1000BASE-X, from frame 1 on: frames 1, 257 and 513 are
@@ -521,7 +537,7 @@ fn values_of_what_is_remembered() {
 }
 
 /// A refused call judges nothing, of a frame that would be the third, and returns the very numbers
-/// that it was given; nor does one with the check off judge it.
+/// that it was given; nor does one with the type check off judge it.
 #[test]
 fn refused_calls_judge_nothing() {
     let right = fields_of(EIGHT.with_type_check());
@@ -558,7 +574,7 @@ fn refused_calls_judge_nothing() {
     }
 }
 
-/// With the check off nothing that the call is told is looked at.
+/// With the type check off nothing that the call is told is looked at.
 #[test]
 fn what_is_told_with_the_check_off() {
     let told = [0, 1, 255, 256, u32::MAX].into_iter().flat_map(|multiframe| {

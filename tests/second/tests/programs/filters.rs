@@ -304,7 +304,7 @@ fn types_of_mapped_frames() {
     assert!(written == demapped(&harmed, &["mend", "type", "7"]));
 }
 
-/// Frames whose type changes: 0 three times, then 7 and 0 once each, and 7 four times.
+/// Frames whose type changes: 0 three times, then 7 and 0 once each, and 7 three times.
 #[test]
 fn types_that_change() {
     let client = Random::new(23).bytes(14407 * 1800);
@@ -312,7 +312,7 @@ fn types_that_change() {
     for (multiframe, psi) in [0, 0, 0, 7, 0, 7, 7, 7].into_iter().enumerate() {
         frames[256 * multiframe * FRAME + PSI] = psi;
     }
-    // No other byte than the PSI byte in these frames is a type.
+    // The PSI byte of a frame that is not numbered 0 is no type.
     frames[300 * FRAME + PSI] = 9;
     let lines = "frame 1: READ 14407\nframe 513: accepted type 0\nframe 1793: accepted type 7\n";
     for (of, range) in [("0", 513..1793), ("7", 1793..1800), ("9", 0..0)] {
@@ -322,6 +322,25 @@ fn types_that_change() {
         assert_eq!(written.said, lines.to_string() + &tally, "type {of}");
         assert!(written.out == client[range.start * 14407..range.end * 14407], "type {of}");
         assert!(written == demapped(&frames, &["type", of]), "type {of}");
+    }
+}
+
+/// Types that change, in frames with wrong control bits over many multiframes, none lost.
+#[test]
+fn types_with_wrong_control_bits() {
+    let mut random = Random::new(25);
+    let at = rate(&mut random);
+    let client = random.bytes(14410 * 1300);
+    let mut input = single_errors(&mut random, &mapped(&client, at).out);
+    for (frame, psi) in input.chunks_exact_mut(FRAME).step_by(256).zip([7, 7, 7, 0, 0, 0]) {
+        frame[PSI] = psi;
+    }
+    for arguments in [&["type", "7"][..], &["mend", "type", "7"], &["mend", "type", "0"]] {
+        let written = run("odu0demap", arguments, vec![input.clone()], None);
+        assert!(written == demapped(&input, arguments), "{arguments:?}:\n{}", written.said);
+        assert!(written.said.contains("frame 513: accepted type 7\n"), "{arguments:?}");
+        assert!(written.said.contains("frame 1281: accepted type 0\n"), "{arguments:?}");
+        assert!(!written.out.is_empty(), "{arguments:?}");
     }
 }
 
