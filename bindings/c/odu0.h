@@ -87,27 +87,29 @@ enum odu0_standing {
  * took with the type check on before this frame, is the one that the call expects: of a client of
  * another type nothing, as long as no three such PSI bytes running say the expected type. A sink
  * that has accepted the expected type, and whose cord is then swapped, may hand out the other
- * client's bytes until three frames numbered 0 with the other type have come. Those are 768 frames
- * at most where they come unharmed and in succession and are told with their own numbers, since any
- * 768 such hold three numbered 0. Two clients of one type are not told apart.
+ * client's bytes until three frames numbered 0 running have had the other type. That takes 768
+ * frames at most where they come unharmed and in succession and are told with their own numbers,
+ * since any 768 such hold three numbered 0. Two clients of one type are not told apart.
  *
  * What follows holds where each call gets the state that the call before it returned, and where the
  * accepted calls have the settings of one source, `mending` and `type_check` apart, which are the
  * same in all of them, and take its frames one after the other, without a restart, none missing,
  * doubled or out of its turn. A new sink never holds a false count while no frame that it reads has
  * more than three wrong control bits with mending off, or more than two with mending on. A sink in
- * any state holds the source's count after two frames that it reads unharmed, and while frames go
- * on coming unharmed keeps it, and with the type check off hands out each further load exactly.
- * With mending on, a sink that holds the source's count and reads frames each with at most one
- * wrong control bit and its other bytes unharmed keeps the count, and with the type check off hands
- * out each load exactly; and one in any state holds the count after two such frames.
+ * any state holds the source's count after two frames in succession that it reads unharmed, and
+ * while frames go on coming unharmed keeps it, and with the type check off hands out each further
+ * load exactly. With mending on, a sink that holds the source's count and reads frames each with at
+ * most one wrong control bit and its other bytes unharmed keeps the count, and with the type check
+ * off hands out each load exactly; and one in any state holds the count after two such frames in
+ * succession.
  *
  * With the type check on, where a load is promised here with it off, that load is handed out or
  * nothing. Where each call is told the multiframe number that the source gave the frame, and all
  * are told one expected type, which is the source's, a sink in any state hands out each load
- * exactly after two unharmed frames if that type is already the accepted one, and otherwise at the
- * latest once three unharmed frames numbered 0 have also come, while frames go on coming unharmed.
- * Where the source's type is another, it hands out nothing once those three have come.
+ * exactly after two unharmed frames in succession if that type is already the accepted one, and
+ * otherwise at the latest once three unharmed frames numbered 0 have also come, while frames go on
+ * coming unharmed. Where the source's type is another, it hands out nothing once those three have
+ * come.
  */
 typedef struct odu0_settings {
     uint32_t k;
@@ -146,8 +148,8 @@ typedef struct odu0_settings {
 #define ODU0_OPU0 ODU0_SETTINGS(3808, 14405, 14410)
 
 /*
- * A source's state: the present count, the multiframe number (0 to 255; a larger one is taken
- * modulo 256) and the payload type.
+ * A source's state: the present count, the multiframe number of the next frame that it writes (0 to
+ * 255; a larger one is taken modulo 256) and the payload type.
  */
 typedef struct odu0_source {
     uint32_t count;
@@ -158,8 +160,9 @@ typedef struct odu0_source {
 /*
  * What a sink's call is told where the type check is on: the frame's multiframe number (0 to 255; a
  * larger one is taken modulo 256) and the payload type that is expected, any of the 256. The number
- * is the one that the source gave the frame; the frame's bytes do not have it. With the type check
- * off neither is looked at.
+ * is the one that the source gave the frame: the MFAS byte that came with it, or, where the source
+ * is at hand, the `multiframe` of its state before the call that wrote the frame. The frame's bytes
+ * do not have it. With the type check off neither is looked at.
  */
 typedef struct odu0_expected {
     uint32_t multiframe;
@@ -175,7 +178,8 @@ typedef struct odu0_expected {
  * number twice or more running. Type 0 is a type like any other.
  *
  * An accepted call returns flags of 0 or 1, a `seen` of 0, 1 or 2, and 0 beside what is none. A
- * refused call returns the very state that it was given.
+ * refused call returns the very state that it was given. Behind `seen_type` stand two bytes that
+ * mean nothing: compare states field by field.
  */
 typedef struct odu0_sink {
     uint32_t known;

@@ -23,18 +23,19 @@ use core::fmt;
 /// and take its frames one after the other, without a restart, none missing, doubled or out of its
 /// turn. A new sink never holds a false count while no frame that it reads has more than three
 /// wrong control bits with mending off, or more than two with mending on. A sink in any state holds
-/// the source's count after two frames that it reads unharmed, and while frames go on coming
-/// unharmed keeps it, and with the type check off hands out each further load exactly. With mending
-/// on, a sink that holds the source's count and reads frames each with at most one wrong control
-/// bit and its other bytes unharmed keeps the count, and with the type check off hands out each
-/// load exactly; and one in any state holds the count after two such frames.
+/// the source's count after two frames in succession that it reads unharmed, and while frames go on
+/// coming unharmed keeps it, and with the type check off hands out each further load exactly. With
+/// mending on, a sink that holds the source's count and reads frames each with at most one wrong
+/// control bit and its other bytes unharmed keeps the count, and with the type check off hands out
+/// each load exactly; and one in any state holds the count after two such frames in succession.
 ///
 /// With the type check on, where a load is promised here with it off, that load is handed out or
 /// nothing. Where each call is told the multiframe number that the source gave the frame, and all
 /// are told one expected type, which is the source's, a sink in any state hands out each load
-/// exactly after two unharmed frames if that type is already the accepted one, and otherwise at the
-/// latest once three unharmed frames numbered 0 have also come, while frames go on coming unharmed.
-/// Where the source's type is another, it hands out nothing once those three have come.
+/// exactly after two unharmed frames in succession if that type is already the accepted one, and
+/// otherwise at the latest once three unharmed frames numbered 0 have also come, while frames go on
+/// coming unharmed. Where the source's type is another, it hands out nothing once those three have
+/// come.
 #[derive(Clone, Copy, Debug, PartialEq, Eq)]
 pub struct Settings {
     /// Payload columns in a row, 1 to 3,808.
@@ -78,10 +79,10 @@ pub struct Settings {
     /// the sink took with the type check on before this frame, is the one that the call expects: of
     /// a client of another type nothing, as long as no three such PSI bytes running say the
     /// expected type. A sink that has accepted the expected type, and whose cord is then swapped,
-    /// may hand out the other client's bytes until three frames numbered 0 with the other type have
-    /// come. Those are 768 frames at most where they come unharmed and in succession and are told
-    /// with their own numbers, since any 768 such hold three numbered 0. Two clients of one type
-    /// are not told apart.
+    /// may hand out the other client's bytes until three frames numbered 0 running have had the
+    /// other type. That takes 768 frames at most where they come unharmed and in succession and are
+    /// told with their own numbers, since any 768 such hold three numbered 0. Two clients of one
+    /// type are not told apart.
     pub type_check: bool,
 }
 

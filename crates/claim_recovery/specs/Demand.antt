@@ -113,9 +113,9 @@ zeroFrames (x ∷ xs) = cond (eqb (numberOf x) 0) (suc (zeroFrames xs)) (zeroFra
 abbrev pub zerosBefore : List SourceStep → ℕ → ℕ → ℕ
 zerosBefore sent m i = zeroFrames (take (i - m) (drop (m - 1) sent))
 
--- The gate for frame i, of a source of this type, at a sink that began in the state z with frame m:
--- the sink had accepted the type before, or "three unharmed frames numbered 0 .. have also come",
--- so that at least three of the frames m to i - 1 are numbered 0.
+-- The source's type came before frame i, at a sink that began in the state z with frame m: the sink
+-- had accepted it before, or "three unharmed frames numbered 0 .. have also come", so that at least
+-- three of the frames m to i - 1 are numbered 0.
 abbrev pub TypeCame : SourceState → List SourceStep → (m i : ℕ) → SinkState → Type 0
 TypeCame source sent m i z = (z .types .accepted ≡ PayloadType (source .«payload_type»)) ⊎ (3 ≤ zerosBefore sent m i)
 

@@ -159,7 +159,7 @@ pub record SinkPromise (s : Settings) (z : SinkState) (e : Expected) (frame out 
   pub out-buffer : after ≡ sinkOut s z e frame out port
 
 -- "off, all is as before and what is remembered of types stays" (02, P4). What a call hands out and
--- the state after it are what they were without the type check, whatever was expected; what it
+-- the state after it are what they were without the type check, whatever the call is told; what it
 -- answers and mends does not look at the type at all.
 pub record UncheckedAsBefore : Type 0 where
   pub state : (s : Settings) (z : SinkState) (e : Expected) (frame out : List ℕ) (port : ℕ) → s .«type_check» ≡ false
@@ -170,8 +170,8 @@ pub record UncheckedAsBefore : Type 0 where
       → sinkHanded s z e frame out port ≡ cond (eqb (sinkRefusal s (length frame) (length out) port) 0) (handed s z frame) []
 
 -- "though counts are followed" (02, P4). Whether the type is checked, what is remembered of types
--- and what is expected have no part in why a call is turned back, in what it answers and mends, and
--- in the count and the word that it leaves.
+-- and what the call is told have no part in why it is turned back, in what it answers and mends,
+-- and in the count and the word that it leaves.
 pub record CountsFollowed : Type 0 where
   pub refusal : (s : Settings) (b : Bool) (frameLength outLength port : ℕ) → sinkRefusal (withTypeCheck s b) frameLength outLength port ≡ sinkRefusal s frameLength outLength port
   pub answer : (s : Settings) (b : Bool) (z : SinkState) (t : Types) (frame out : List ℕ) (port : ℕ)

@@ -55,13 +55,13 @@ pub fn any_port()
 {}
 
 // With the type check off, what a call hands out and the state after it are what they were without
-// it, whatever was expected, and what is remembered of types stays.
+// it, whatever the call is told, and what is remembered of types stays.
 pub fn unchecked_as_before()
     ensures { λ _. ⌜ UncheckedAsBefore ⌝ }
 {}
 
 // Counts are followed whatever the types are: the type check, what is remembered of types and what
-// is expected have no part in the answer of a call and in the count and the word that it leaves.
+// the call is told have no part in its answer and in the count and the word that it leaves.
 pub fn counts_followed()
     ensures { λ _. ⌜ CountsFollowed ⌝ }
 {}

@@ -566,6 +566,36 @@ fn types_of_bad_and_refused_frames() {
     assert_eq!(tallies.of(1), Some(Tally { frames: 5, bad: 5, bytes: 4 }));
 }
 
+/// An alarm signal of all ones, or of 66 or 55, stands in for the frames of a port that hands out:
+/// each is BADCHECK, with mending too, and its type is accepted like any other. When the frames
+/// come again the count is back, and the bytes come after three of them numbered 0.
+#[test]
+fn types_of_alarm_signals() {
+    let settings = EIGHT.with_type_check();
+    for (signal, on) in [0xFF, 0x66, 0x55]
+        .into_iter()
+        .flat_map(|of| [(of, settings), (of, settings.with_mending())])
+    {
+        let mut sink = Sink { accepted: Some(7), seen: Seen::Twice(7), ..Sink::new() };
+        let expected = Expected { multiframe: 0, payload_type: 0x07 };
+        let mut call = |frame: &[u8]| {
+            let taken = sink.call(on, expected, frame, &mut [0; 8], 1, &mut Tallies::new());
+            let Taken { standing, handed, .. } = taken.unwrap();
+            (standing, handed, sink.accepted)
+        };
+        let four = Standing::Read(4);
+        assert_eq!(call(&at_four(0x07)), (four, 0, Some(7)));
+        assert_eq!(call(&at_four(0x07)), (four, 4, Some(7)));
+        assert_eq!(call(&[signal; 16]), (Standing::BadCheck, 4, Some(7)));
+        assert_eq!(call(&[signal; 16]), (Standing::BadCheck, 0, Some(7)));
+        assert_eq!(call(&[signal; 16]), (Standing::BadCheck, 0, Some(signal)));
+        assert_eq!(call(&at_four(0x07)), (four, 0, Some(signal)));
+        assert_eq!(call(&at_four(0x07)), (four, 0, Some(signal)));
+        assert_eq!(call(&at_four(0x07)), (four, 0, Some(7)));
+        assert_eq!(call(&at_four(0x07)), (four, 4, Some(7)));
+    }
+}
+
 /// A source of one type and a new sink that expects this type or another, over 800 frames: when the
 /// sink held the count, when a type was accepted, and the first and the last frame that it handed
 /// out.
