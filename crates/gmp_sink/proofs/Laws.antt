@@ -148,20 +148,13 @@ module _ (s : Settings) (z : SinkState) (frame : List ℕ) where
       unfolding sinkOut
       out-refused h = ap (λ (l : List ℕ). l ++ drop (length l) out) (handed-refused h)
 
-      -- the count and the word that a call leaves
-      count-of-call : sinkState s z w frame out p .count ≡ cond (eqb (sinkRefusal s (length frame) (length out) p) 0) (standingAfter s z (controlOf (s .k) frame) .count) (z .count)
-      unfolding sinkState stateAfter
-      count-of-call = by (eqb (sinkRefusal s (length frame) (length out) p) 0)
+      -- a part of the state that a call leaves
+      part-of-call : {A : Type 0} (f : SinkState → A)
+          → f (sinkState s z w frame out p) ≡ cond (eqb (sinkRefusal s (length frame) (length out) p) 0) (f (frameAfter s z w frame)) (f z)
+      unfolding sinkState
+      part-of-call {A} f = by (eqb (sinkRefusal s (length frame) (length out) p) 0)
         where
-          by : (b : Bool) → cond b (frameAfter s z w frame) z .count ≡ cond b (standingAfter s z (controlOf (s .k) frame) .count) (z .count)
-          by true = refl
-          by false = refl
-
-      word-of-call : sinkState s z w frame out p .word ≡ cond (eqb (sinkRefusal s (length frame) (length out) p) 0) (wordAfter (readingOf s (controlOf (s .k) frame))) (z .word)
-      unfolding sinkState stateAfter
-      word-of-call = by (eqb (sinkRefusal s (length frame) (length out) p) 0)
-        where
-          by : (b : Bool) → cond b (frameAfter s z w frame) z .word ≡ cond b (wordAfter (readingOf s (controlOf (s .k) frame))) (z .word)
+          by : (b : Bool) → f (cond b (frameAfter s z w frame) z) ≡ cond b (f (frameAfter s z w frame)) (f z)
           by true = refl
           by false = refl
 
@@ -367,17 +360,23 @@ module _ (s : Settings) (b : Bool) where
     unfolding sinkAnswer
     followed-answer = ap₂ answerBy (followed-refusal (length frame) (length out) p) (followed-standing z t (controlOf (s .k) frame))
 
+    -- a part of the state is that without the types, where the part after the frame is
+    followed-part : {A : Type 0} (f : SinkState → A) (w v : Expected) → f (withTypes z t) ≡ f z
+        → f (frameAfter (withTypeCheck s b) (withTypes z t) w frame) ≡ f (frameAfter s z v frame)
+        → f (sinkState (withTypeCheck s b) (withTypes z t) w frame out p) ≡ f (sinkState s z v frame out p)
+    followed-part {A} f w v before after =
+        part-of-call (withTypeCheck s b) (withTypes z t) frame w out p f
+        ∙ ap (λ (n : ℕ). cond (eqb n 0) (f (frameAfter (withTypeCheck s b) (withTypes z t) w frame)) (f (withTypes z t))) (followed-refusal (length frame) (length out) p)
+        ∙ ap₂ (cond (eqb (sinkRefusal s (length frame) (length out) p) 0)) after before
+        ∙ sym (part-of-call s z frame v out p f)
+
     followed-count : (w v : Expected) → sinkState (withTypeCheck s b) (withTypes z t) w frame out p .count ≡ sinkState s z v frame out p .count
-    followed-count w v =
-        count-of-call (withTypeCheck s b) (withTypes z t) frame w out p
-        ∙ ap₂ (λ (n : ℕ) (f : Finding). cond (eqb n 0) (f .count) (z .count)) (followed-refusal (length frame) (length out) p) (followed-standing z t (controlOf (s .k) frame))
-        ∙ sym (count-of-call s z frame v out p)
+    unfolding stateAfter
+    followed-count w v = followed-part (λ (q : SinkState). q .count) w v refl (ap (λ (f : Finding). f .count) (followed-standing z t (controlOf (s .k) frame)))
 
     followed-word : (w v : Expected) → sinkState (withTypeCheck s b) (withTypes z t) w frame out p .word ≡ sinkState s z v frame out p .word
-    followed-word w v =
-        word-of-call (withTypeCheck s b) (withTypes z t) frame w out p
-        ∙ ap (λ (n : ℕ). cond (eqb n 0) (wordAfter (readingOf s (controlOf (s .k) frame))) (z .word)) (followed-refusal (length frame) (length out) p)
-        ∙ sym (word-of-call s z frame v out p)
+    unfolding stateAfter
+    followed-word w v = followed-part (λ (q : SinkState). q .word) w v refl refl
 
 pub counts-followed : CountsFollowed
 counts-followed =
