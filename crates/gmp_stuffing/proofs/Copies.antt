@@ -1,12 +1,12 @@
--- Laws of a copy: of no byte, of one byte more, over the end of an earlier copy, and by way of an
--- array. Assumes nothing.
+-- Laws of a copy: of no byte, of one byte more, what stands before it, in it and after it, over the
+-- end of an earlier copy, and by way of an array. Assumes nothing.
 use mathlib.Core.Path.{_≡_, sym, ap, _∙_}
 use mathlib.Core.List.{List, [], _∷_, _++_, append-assoc, append-nil}
 use Prim.Native.Nat.{ℕ, _+_, _-_, _≤_, _<_}
 use native.Mathlib.Numerals.{add-one}
 use native.Mathlib.Omega.{arith}
 use lib.ListN.{length, getD, take, drop, set, length-take, length-drop}
-use lib.Seq.{take-all, drop-length, length-take-le, take-take, take-add, take-append-le, take-append-add, drop-append-add, drop-drop, drop-cons, getD-drop, set-at, take-at, append-snoc, paste-zero, paste-suc, length-paste, length-paste-head}
+use lib.Seq.{take-all, drop-length, length-take-le, take-take, take-add, take-append-le, take-append-add, drop-append-add, drop-drop, drop-cons, getD-drop, set-at, append-snoc, paste-zero, paste-suc, length-paste, length-paste-head}
 use Rattle.gmp_stuffing.specs.Copied.{copied}
 
 -- A list that begins with p and goes on with d after as many bytes: what stands further on, and one
@@ -16,10 +16,6 @@ drop-past p d i k l = ap (λ (n : ℕ). drop (n + k) (p ++ drop i d)) (sym l) �
 
 pub store-more : (p d : List ℕ) (j x : ℕ) → length p ≡ j → j < length d → set (p ++ drop j d) j x ≡ (p ++ (x ∷ [])) ++ drop (j + 1) d
 store-more p d j x e h = rw (drop-cons d j 0, set-at p _ _ x j e, append-snoc, add-one)
-
--- a copy behind p
-pub copied-behind : (p d : List ℕ) (i : ℕ) (s : List ℕ) (j k : ℕ) → length p ≡ i → copied (p ++ drop i d) i s j k ≡ (p ++ take k (drop j s)) ++ drop (i + k) d
-copied-behind p d i s j k l = rw (take-at p (drop i d) i l, drop-past p d i k l)
 
 module _ (d : List ℕ) (i : ℕ) (s : List ℕ) (j : ℕ) where
   pub copied-none : d ≡ copied d i s j 0
@@ -33,21 +29,37 @@ module _ (d : List ℕ) (i : ℕ) (s : List ℕ) (j : ℕ) where
       let lt : k < length (drop j s) = simp length-drop (omega arith) in
       rw (add-one k, ← getD-drop j s k 0) (paste-suc d i (drop j s) k 0 h lt)
 
+  -- up to m bytes of a copy, and what comes after it
+  module _ (k : ℕ) (hd : i ≤ length d) (hs : j + k ≤ length s) where
+    ends : length (take i d ++ take k (drop j s)) ≡ i + k
+    ends = length-paste-head d i (drop j s) k hd (simp length-drop (omega arith))
+
+    pub copied-front : (m : ℕ) → m ≤ k → take (i + m) (copied d i s j k) ≡ take i d ++ take m (drop j s)
+    copied-front m l =
+        take-append-le (i + m) (take i d ++ take k (drop j s)) (drop (i + k) d) (omega (arith, ends))
+        ∙ ap (λ (n : ℕ). take (n + m) (take i d ++ take k (drop j s))) (sym (length-take-le i d hd))
+        ∙ take-append-add (take i d) (take k (drop j s)) m
+        ∙ rw (take-take m k (drop j s) l)
+
+    pub copied-after : (e : ℕ) → i + k ≤ e → drop e (copied d i s j k) ≡ drop e d
+    copied-after e l =
+        let f : e ≡ i + k + (e - (i + k)) = omega arith in
+        rw f (drop-past (take i d ++ take k (drop j s)) d (i + k) (e - (i + k)) ends)
+
   -- a second copy that begins within the first and ends no earlier
   pub copied-copied : (k a n : ℕ) → i + k ≤ length d → j + k ≤ length s → a ≤ k → k ≤ a + n
       → copied (copied d i s j k) (i + a) s (j + a) n ≡ copied d i s j (a + n)
   copied-copied k a n hd hs ha hn =
-      let y = take i d ++ take k (drop j s) in
-      let ly : length y ≡ i + k = length-paste-head d i (drop j s) k (omega arith) (simp length-drop (omega arith)) in
-      let li : length (take i d) ≡ i = length-take-le i d (omega arith) in
-      let front : take (i + a) (y ++ drop (i + k) d) ≡ take i d ++ take a (drop j s) =
-      take-append-le (i + a) y (drop (i + k) d) (omega arith)
-      ∙ ap (λ (m : ℕ). take (m + a) y) (sym li)
-      ∙ take-append-add (take i d) (take k (drop j s)) a
-      ∙ rw (take-take a k (drop j s) ha) in
-      let e : i + a + n ≡ i + k + (a + n - k) = omega arith in
-      let f : i + k + (a + n - k) ≡ i + (a + n) = omega arith in
-      rw (front, e, drop-past y d (i + k) (a + n - k) ly, f, take-add a n (drop j s), drop-drop a j s, append-assoc (take i d) (take a (drop j s)) (take n (drop (j + a) s)))
+      let h : i ≤ length d = omega arith in
+      let e : i + a + n ≡ i + (a + n) = omega arith in
+      rw (
+        copied-front k h hs a ha,
+        e,
+        copied-after k h hs (i + (a + n)) (omega arith),
+        take-add a n (drop j s),
+        drop-drop a j s,
+        append-assoc (take i d) (take a (drop j s)) (take n (drop (j + a) s)),
+      )
 
   -- a copy by way of an array
   pub copied-through : (n : ℕ) (z : List ℕ) → length z ≡ n → j + n ≤ length s → copied d i (copied z 0 s j n) 0 n ≡ copied d i s j n
@@ -55,9 +67,3 @@ module _ (d : List ℕ) (i : ℕ) (s : List ℕ) (j : ℕ) where
       let l : length (take n (drop j s)) ≡ n = simp (length-take, length-drop) (omega arith) in
       let e : 0 + n ≡ length z = omega arith in
       rw (e, drop-length, append-nil (take n (drop j s)), take-all n (take n (drop j s)) (omega arith))
-
--- one byte more of a copy to the start
-pub copied-first : (d s : List ℕ) (j k : ℕ) → k < length d → j + k < length s → set (copied d 0 s j k) k (getD s (j + k) 0) ≡ copied d 0 s j (k + 1)
-copied-first d s j k h l =
-    let z : k ≡ 0 + k = omega arith in
-    ap (λ (n : ℕ). set (copied d 0 s j k) n (getD s (j + k) 0)) z ∙ copied-more d 0 s j k (omega arith) l

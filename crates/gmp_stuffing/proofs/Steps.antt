@@ -11,7 +11,7 @@ use native.Mathlib.Numerals.{add-one}
 use native.Mathlib.Omega.{arith}
 use lib.Arith.{digits-div, digits-mod}
 use lib.ListN.{length, getD, take, length-append}
-use lib.Seq.{take-suc, length-take-le}
+use lib.Seq.{take-suc}
 use borrow.Author.Tests.{lt-ltb, le-ltb}
 use Rattle.gmp_stuffing.specs.Places.{carries, places, placed, tabulate, chosen}
 
@@ -134,11 +134,6 @@ chosen-append C S n [] q = rw (add-zero n)
 chosen-append C S n (b ∷ p) q =
     let e : n + suc (length p) ≡ n + 1 + length p = omega arith in
     rw (chosen-append C S (n + 1) p q, append-assoc, e)
-
--- one stuffing byte more to choose from
-pub chosen-stuffing : (C S n : ℕ) (p : List ℕ) (i : ℕ) → i < length p → Stuffing C S (n + i) → chosen C S n (take (i + 1) p) ≡ chosen C S n (take i p)
-unfolding chosen
-chosen-stuffing C S n p i h s = rw (add-one, take-suc p i 0 h, chosen-append, length-take-le i p (omega arith), s .place, append-nil (chosen C S n (take i p)))
 
 -- the bytes chosen from a payload that was placed are the client bytes that were placed
 module _ (S : ℕ) (bytes : List ℕ) (le : length bytes ≤ S) where

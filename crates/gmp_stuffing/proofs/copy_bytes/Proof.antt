@@ -45,9 +45,6 @@ loop-again c =
       rw length-set (a .loop .inv .2),
     )
 
-same-length : tie.Need-same-length Inv-loop μ-loop
-same-length c = search needs
-
 returns : tie.Need-returns Inv-loop μ-loop
 returns c =
     let e : c .before .loop .k ≡ c .before .before .args .m = omega arith in
@@ -67,5 +64,5 @@ copy-bytes-spec =
     add-k
     loop-less
     loop-again
-    same-length
+    (λ c. search needs)
     returns)

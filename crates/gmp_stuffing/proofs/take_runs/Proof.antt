@@ -1,221 +1,144 @@
--- `gmp_stuffing::take_runs` meets its contract. At the loop's head the client bytes among the first
--- i bytes of the row are copied. Assumes nothing.
-use mathlib.Core.Path.{_≡_, refl, sym, _∙_}
-use mathlib.Core.List.{List, _++_, append-nil, append-assoc}
-use Prim.Native.Nat.{ℕ, _+_, _-_, _*_, _/_, _≤_, _<_}
+-- `gmp_stuffing::take_runs` meets its contract: by blocks, then run by run, and the last run.
+-- Assumes nothing.
+use mathlib.Core.Path.{_≡_, refl, _∙_}
+use Prim.Native.Nat.{_+_, _-_, _*_, _/_, _≤_, _<_}
 use native.Mathlib.Omega.{arith}
-use lib.ListN.{length, take, drop, length-append, length-take, length-drop, take-append-drop}
-use lib.Seq.{take-add, take-length, length-take-le}
+use lib.ListN.{length}
 use borrow.Author.Needs.{needs}
-use Rattle.gmp_stuffing.specs.Copied.{copied}
-use Rattle.gmp_stuffing.specs.Places.{chosen}
-use Rattle.gmp_stuffing.proofs.Copies.{copied-behind, length-copied}
-use Rattle.gmp_stuffing.proofs.Steps.{count-le, length-chosen, chosen-append, chosen-stuffing}
-use Rattle.gmp_stuffing.proofs.Runs.{chosen-run, row-fits, row-count, Head, head-row, head-low, head-run, head-there, head-stuffing, head-short, head-long, payload-word, before-word, first-word, next-word, longer-word, run-word, rest-word}
+use Rattle.gmp_stuffing.specs.Row.{rowClient}
+use Rattle.gmp_stuffing.proofs.Filled.{Filled}
+use Rattle.gmp_stuffing.proofs.Runs.{row-le, taken-none}
+use Rattle.gmp_stuffing.proofs.Turns.{Ahead, ahead-row, turn, hop-word, block-room, run-room, last-room, in-client, used-next, take-turn, take-last, take-on}
 use Rattle.gmp_stuffing.proofs.take_runs.Statement.{statement}
 use Rattle.gmp_stuffing.proofs.take_runs.Tie as tie
 
--- what holds at the loop's head
-record Taken (part out₀ : List ℕ) (from C S : ℕ) (out : List ℕ) (j m e i : ℕ) : Type 0 where
-  within : i ≤ length part
-  same : length out ≡ length out₀
-  head : Head from C S j m e i
-  bytes : out ≡ (take (from * C / S) out₀ ++ chosen C S from (take i part)) ++ drop j out₀
-
-module _ {part out₀ : List ℕ} {from C S : ℕ} {out : List ℕ} {j m e i : ℕ} (fits : from + length part ≤ S) (space : C ≤ length out₀) (lt : C < S)
-    (v : Taken part out₀ from C S out j m e i) where
-  -- the bytes written so far end at j
-  ends : length (take (from * C / S) out₀ ++ chosen C S from (take i part)) ≡ j
-  ends =
-      let h : from * C / S ≤ length out₀ = omega (arith, count-le C S from (omega arith)) in
-      let l : length (take i part) ≡ i = length-take-le i part (v .within) in
-      rw (length-append, length-take-le (from * C / S) out₀ h)
-      (omega (arith, v .head .count, rw l at (length-chosen C S (omega arith) from (take i part))))
-
-  -- k client bytes of the run
-  module _ (k : ℕ) (le : k ≤ m) (into : i + k ≤ length part) where
-    there : j + k ≤ C
-    there = head-there lt (v .head) k le (omega arith)
-
-    taken : copied out j part i k ≡ (take (from * C / S) out₀ ++ chosen C S from (take (i + k) part)) ++ drop (j + k) out₀
-    taken =
-        let y = take (from * C / S) out₀ ++ chosen C S from (take i part) in
-        let lk : length (take k (drop i part)) ≡ k = simp (length-take, length-drop) (omega arith) in
-        let all : chosen C S (from + i) (take k (drop i part)) ≡ take k (drop i part) =
-        chosen-run C S (S - C) (omega arith) (omega arith) (from + i) (take k (drop i part)) (rw lk (head-low lt (v .head) k le)) in
-        rw (
-          v .bytes,
-          copied-behind y out₀ j part i k ends,
-          take-add i k part,
-          chosen-append,
-          length-take-le i part (v .within),
-          all,
-          append-assoc (take (from * C / S) out₀) (chosen C S from (take i part)) (take k (drop i part)),
-        )
-
-  -- a turn: the run is there and has room, and the stuffing byte comes after it
-  module _ (more : i + m < length part) where
-    run-room : (j + m ≤ length out) × (i + m ≤ length part)
-    run-room = (omega (arith, there m (omega arith) (omega arith), v .same), omega arith)
-
-    turned : (x m′ e′ : ℕ) → x ≡ m′ → Head from C S (j + m) m′ e′ (i + m + 1) → Taken part out₀ from C S (copied out j part i m) (j + m) x e′ (i + m + 1)
-    turned x m′ e′ next h = record {
-      within = omega arith;
-      same = length-copied out j part i m (run-room .0) (run-room .1) ∙ v .same;
-      head = rw next h;
-      bytes = rw (chosen-stuffing C S from part (i + m) more (head-stuffing lt (v .head))) (taken m (omega arith) (omega arith));
-    }
-
-  -- the last run of the row is there and has room, and after it all client bytes of the row are
-  -- copied
-  module _ (done : length part ≤ i + m) where
-    last-room : (j + (length part - i) ≤ length out) × (i + (length part - i) ≤ length part)
-    last-room = (omega (arith, there (length part - i) (omega arith) (omega arith), v .same, v .within), omega (arith, v .within))
-
-    ended : copied out j part i (length part - i) ≡ (take (from * C / S) out₀ ++ chosen C S from part) ++ drop ((from + length part) * C / S) out₀
-    ended =
-        let n = length part - i in
-        let l : i + n ≡ length part = omega (arith, v .within) in
-        let t : from + i + n ≡ from + length part = omega arith in
-        let end : j + n ≡ (from + length part) * C / S = omega (arith, v .head .count, rw t at (head-run lt (v .head) n (omega arith) .count)) in
-        rw (taken n (omega arith) (omega arith), l, end, take-length)
-
 abbrev Inv-loop : tie.InvT-loop
-Inv-loop part count r out₀ k d q step first taken₀ len₀ over₀ seen₀ out taken len over seen =
-    Taken part out₀ (r * k) count (4 * k) out taken len over seen
+Inv-loop part count r out₀ k hop block stop from stuffed₀ x₀ seen₀ out stuffed x seen = (stuffed ≤ from + seen) × Ahead k count (4 * k - count) r seen (from + seen - stuffed) x × (length out ≡ length out₀) × Filled ((r * k + k) * count / (4 * k)) (from + seen - stuffed) (rowClient k r count part out₀) out
 
 abbrev μ-loop : tie.MeasureT-loop
-μ-loop part count r out₀ k d q step first taken₀ len₀ over₀ seen₀ out taken len over seen = length part - seen
+μ-loop part count r out₀ k hop block stop from stuffed₀ x₀ seen₀ out stuffed x seen = k - seen
 
-mul-d : tie.Need-mul-d Inv-loop μ-loop
-mul-d c =
-    let b = c .before .before in
-    let g = b .args in
-    payload-word (length (g .part .now)) (g .count) (b .pre .0) (b .pre .3)
+abbrev Inv-loop2 : tie.InvT-loop2
+Inv-loop2 part count r out₀ k hop block stop from stuffed x₀ seen₀ taken₀ out x seen taken = Ahead k count (4 * k - count) r seen taken x × (length out ≡ length out₀) × Filled ((r * k + k) * count / (4 * k)) taken (rowClient k r count part out₀) out
 
-sub-d : tie.Need-sub-d Inv-loop μ-loop
-sub-d c = omega arith
+abbrev μ-loop2 : tie.MeasureT-loop2
+μ-loop2 part count r out₀ k hop block stop from stuffed x₀ seen₀ taken₀ out x seen taken = k - seen
 
-div-q : tie.Need-div-q Inv-loop μ-loop
-div-q c = search needs
+mul-from : tie.Need-mul-from Inv-loop μ-loop Inv-loop2 μ-loop2
+mul-from c = omega (arith, row-le (c .before .before .before .args .r) (length (c .before .before .before .args .part .now)) (c .before .before .before .pre .2))
 
-rem-step : tie.Need-rem-step Inv-loop μ-loop
-rem-step c = search needs
-
-mul-first : tie.Need-mul-first Inv-loop μ-loop
-mul-first c =
-    let b = c .before .before in
-    let g = b .args in
-    before-word (length (g .part .now)) (g .count) (b .pre .0) (b .pre .3) (g .r) (b .pre .2)
-
-mul-first-2 : tie.Need-mul-first-2 Inv-loop μ-loop
-mul-first-2 c =
-    let b = c .before .before in
-    let g = b .args in
-    first-word (length (g .part .now)) (g .count) (b .pre .0) (b .pre .3) (g .r)
-
-mul-taken : tie.Need-mul-taken Inv-loop μ-loop
-mul-taken c = mul-first c
-
-div-len : tie.Need-div-len Inv-loop μ-loop
-div-len c = search needs
-
-rem-over : tie.Need-rem-over Inv-loop μ-loop
-rem-over c = search needs
-
-loop-holds : tie.Need-loop-holds Inv-loop μ-loop
-unfolding chosen
+loop-holds : tie.Need-loop-holds Inv-loop μ-loop Inv-loop2 μ-loop2
 loop-holds c =
-    let g = c .before .before .args in
-    record {
-      within = omega arith;
-      same = refl;
-      head = head-row (g .r) (length (g .part .now)) (g .count) _ (omega arith) (c .before .before .pre .0);
-      bytes = rw (row-count (g .r) (length (g .part .now)) (g .count) (omega arith), append-nil (take (g .r * g .count / 4) (g .out .now)))
-          (sym (take-append-drop (g .r * g .count / 4) (g .out .now)));
-    }
+    let g = c .before .before .before .args in
+    let k = length (g .part .now) in
+    let s = c .row-runs .ensures in
+    let a = ahead-row k (g .count) (4 * k - g .count) (g .r) _ (omega arith) (omega arith) (c .before .before .before .pre .3) (s .0) in
+    let z : g .r * k + 0 ≡ g .r * k = omega arith in
+    let none = taken-none (g .r) (g .count) (g .part .now) (g .out .now) (omega arith) (omega arith) (c .before .before .before .pre .1) (c .before .before .before .pre .2) in
+    (omega (arith, a .0), rw (s .1) (a .1), refl, rw (a .1 .count, z) none)
 
--- the row lies within the payload
-fits-at : (a : tie.At-loop Inv-loop μ-loop) → let g = a .before .before .before .args in g .r * length (g .part .now) + length (g .part .now) ≤ 4 * length (g .part .now)
-fits-at a = let b = a .before .before .before in row-fits (b .args .r) (length (b .args .part .now)) (b .pre .2)
+add-copy-pair : tie.Need-add-copy-pair Inv-loop μ-loop Inv-loop2 μ-loop2
+add-copy-pair c = omega (arith, row-le (c .before .before .before .before .before .before .args .r) (length (c .before .before .before .before .before .before .args .part .now)) (c .before .before .before .before .before .before .pre .2), c .before .before .loop .inv .1 .within)
 
-add-loop : tie.Need-add-loop Inv-loop μ-loop
-add-loop c =
-    let b = c .before .before .before in
-    let g = b .args in
-    run-word (length (g .part .now)) (g .count) (b .pre .0) (b .pre .3) (c .loop .inv .head) (c .loop .inv .within)
+sub-copy-pair : tie.Need-sub-copy-pair Inv-loop μ-loop Inv-loop2 μ-loop2
+sub-copy-pair c = c .before .before .loop .inv .0
 
-copy-run-requires : tie.Need-copy-run-requires Inv-loop μ-loop
-copy-run-requires c κs =
-    let a = c .before .before in
-    let p = a .before .before .before .pre in
-    run-room (fits-at a) (p .1) (p .0) (a .loop .inv) (c .before .loop-test .taken)
+copy-pair-requires : tie.Need-copy-pair-requires Inv-loop μ-loop Inv-loop2 μ-loop2
+copy-pair-requires c κs =
+    let s = c .before .before .before .row-runs .ensures in
+    let e = s .5 (c .before .before .loop .parts) (c .before .loop-test .taken) in
+    let q = block-room (c .before .before .loop .inv .1) _ (c .before .before .before .before .before .before .pre .4) (e .0) (e .1) in
+    (omega (arith, in-client (c .before .before .before .before .before .before .pre .2) q, c .before .before .loop .inv .2, c .before .before .before .before .before .before .pre .1), q .row, s .3, s .4)
 
-add-taken : tie.Need-add-taken Inv-loop μ-loop
-add-taken c =
-    let a = c .before .before .before .before .before in
-    let p = a .before .before .before .pre in
-    omega (arith, run-room (fits-at a) (p .1) (p .0) (a .loop .inv) (c .before .before .before .before .loop-test .taken) .0)
+add-stuffed : tie.Need-add-stuffed Inv-loop μ-loop Inv-loop2 μ-loop2
+add-stuffed c = omega (arith, row-le (c .before .before .before .before .before .before .before .before .before .args .r) (length (c .before .before .before .before .before .before .before .before .before .args .part .now)) (c .before .before .before .before .before .before .before .before .before .pre .2), c .before .before .before .before .before .loop .inv .0, c .before .before .before .before .before .loop .inv .1 .within)
 
-add-seen : tie.Need-add-seen Inv-loop μ-loop
-add-seen c = add-loop (c .before .before .before .before .before)
+add-at : tie.Need-add-at Inv-loop μ-loop Inv-loop2 μ-loop2
+add-at c = omega (arith, c .before .before .before .before .before .before .row-runs .ensures .5 (c .before .before .before .before .before .loop .parts) (c .before .before .before .before .loop-test .taken) .1)
 
-add-seen-2 : tie.Need-add-seen-2 Inv-loop μ-loop
-add-seen-2 c =
-    let b = c .before .before .before .before .before .before .before .before in
-    let g = b .args in
-    let l = c .before .before .before .before .before .loop in
-    next-word (length (g .part .now)) (g .count) (b .pre .0) (b .pre .3) (l .seen + l .len) (c .before .before .before .before .loop-test .taken)
+add-parts : tie.Need-add-parts Inv-loop μ-loop Inv-loop2 μ-loop2
+add-parts c = rw (c .before .before .before .before .before .before .row-runs .ensures .2) (hop-word (c .before .before .before .before .before .loop .inv .1) (omega (arith, c .before .before .before .before .before .before .row-runs .ensures .5 (c .before .before .before .before .before .loop .parts) (c .before .before .before .before .loop-test .taken) .1)))
 
-add-over : tie.Need-add-over Inv-loop μ-loop
-add-over c =
-    let b = c .before .before .before .before .before .before .before .before in
-    let g = b .args in
-    rest-word (length (g .part .now)) (g .count) (b .pre .0) (b .pre .3) (c .before .before .before .before .before .loop .inv .head)
+loop-less : tie.Need-loop-less Inv-loop μ-loop Inv-loop2 μ-loop2
+loop-less c =
+    let e = c .before .before .before .before .before .before .row-runs .ensures .5 (c .before .before .before .before .before .loop .parts) (c .before .before .before .before .loop-test .taken) in
+    omega (arith, e .1, turn (c .before .before .before .before .before .loop .inv .1) (omega (arith, e .1)) .after)
 
-add-len : tie.Need-add-len Inv-loop μ-loop
-add-len c =
-    let b = c .before .before .before .before .before .before .before .before .before in
-    let g = b .args in
-    longer-word (length (g .part .now)) (g .count) (b .pre .0) (b .pre .3)
-
-loop-less : tie.Need-loop-less Inv-loop μ-loop
-loop-less c = omega arith
-
-loop-again : tie.Need-loop-again Inv-loop μ-loop
+loop-again : tie.Need-loop-again Inv-loop μ-loop Inv-loop2 μ-loop2
 loop-again c =
-    let a = c .before .before .before .before .before .before in
-    let p = a .before .before .before .pre in
-    rw (c .before .before .before .copy-run .ensures)
-    (turned (fits-at a) (p .1) (p .0) (a .loop .inv) (c .before .before .before .before .before .loop-test .taken) _ _ _ (omega arith) (head-long (p .0) (a .loop .inv .head) (c .if1 .taken)))
+    let g = c .before .before .before .before .before .before .before .before .before .args in
+    let s = c .before .before .before .before .before .before .row-runs .ensures in
+    let v = c .before .before .before .before .before .loop .inv in
+    let e = s .5 (c .before .before .before .before .before .loop .parts) (c .before .before .before .before .loop-test .taken) in
+    let h : c .before .before .before .before .before .loop .parts / 1099511627776 < length (g .part .now) = omega (arith, e .1) in (
+      omega (arith, v .0, turn (v .1) h .after),
+      rw (s .2, ← used-next (v .1) (v .0) h) (turn (v .1) h .next),
+      c .before .before .copy-pair .kept .0 ∙ v .2,
+      rw (c .before .before .copy-pair .ensures, ← used-next (v .1) (v .0) h) (take-turn (g .part .now) (g .out .now) (v .1) (v .3) (c .before .before .before .before .before .before .before .before .before .pre .1) (c .before .before .before .before .before .before .before .before .before .pre .2) _ h (block-room (v .1) _ (c .before .before .before .before .before .before .before .before .before .pre .4) (e .0) (e .1))),
+    )
 
-loop-less-2 : tie.Need-loop-less-2 Inv-loop μ-loop
-loop-less-2 c = omega arith
+add-taken : tie.Need-add-taken Inv-loop μ-loop Inv-loop2 μ-loop2
+add-taken c = omega (arith, row-le (c .before .before .before .before .before .args .r) (length (c .before .before .before .before .before .args .part .now)) (c .before .before .before .before .before .pre .2), c .before .loop .inv .1 .within)
 
-loop-again-2 : tie.Need-loop-again-2 Inv-loop μ-loop
-loop-again-2 c =
-    let a = c .before .before .before .before .before .before in
-    let p = a .before .before .before .pre in
-    rw (c .before .before .before .copy-run .ensures)
-    (turned (fits-at a) (p .1) (p .0) (a .loop .inv) (c .before .before .before .before .before .loop-test .taken) _ _ _ (omega arith) (head-short (p .0) (a .loop .inv .head) (c .if1 .left)))
+sub-taken : tie.Need-sub-taken Inv-loop μ-loop Inv-loop2 μ-loop2
+sub-taken c = c .before .loop .inv .0
 
-sub-copy-run : tie.Need-sub-copy-run Inv-loop μ-loop
-sub-copy-run c = c .before .before .loop .inv .within
+loop2-holds : tie.Need-loop2-holds Inv-loop μ-loop Inv-loop2 μ-loop2
+loop2-holds c =
+    let v = c .before .loop .inv in
+    (v .1, refl, rw (take-on (c .before .before .before .before .before .args .part .now) (c .before .before .before .before .before .args .out .now) (v .1) (v .3) (c .before .before .before .before .before .pre .1) (c .before .before .before .before .before .pre .2)) (v .3))
 
-copy-run-requires-2 : tie.Need-copy-run-requires-2 Inv-loop μ-loop
+sub-copy-run : tie.Need-sub-copy-run Inv-loop μ-loop Inv-loop2 μ-loop2
+sub-copy-run c = turn (c .before .before .loop2 .inv .0) (c .before .loop2-test .taken) .after
+
+copy-run-requires : tie.Need-copy-run-requires Inv-loop μ-loop Inv-loop2 μ-loop2
+copy-run-requires c κs =
+    let q = run-room (c .before .before .loop2 .inv .0) (c .before .loop2-test .taken) in
+    (omega (arith, in-client (c .before .before .before .before .before .before .before .before .pre .2) q, c .before .before .loop2 .inv .1, c .before .before .before .before .loop .inv .2, c .before .before .before .before .before .before .before .before .pre .1), q .row)
+
+sub-taken-2 : tie.Need-sub-taken-2 Inv-loop μ-loop Inv-loop2 μ-loop2
+sub-taken-2 c = turn (c .before .before .before .before .before .loop2 .inv .0) (c .before .before .before .before .loop2-test .taken) .after
+
+add-taken-2 : tie.Need-add-taken-2 Inv-loop μ-loop Inv-loop2 μ-loop2
+add-taken-2 c = omega (arith, in-client (c .before .before .before .before .before .before .before .before .before .before .before .pre .2) (run-room (c .before .before .before .before .before .loop2 .inv .0) (c .before .before .before .before .loop2-test .taken)), c .before .before .before .before .before .before .before .before .before .before .before .pre .0, c .before .before .before .before .before .before .before .before .before .before .before .pre .3)
+
+add-at-2 : tie.Need-add-at-2 Inv-loop μ-loop Inv-loop2 μ-loop2
+add-at-2 c = omega (arith, c .before .before .before .before .loop2-test .taken, c .before .before .before .before .before .before .before .before .before .before .before .pre .3)
+
+add-parts-2 : tie.Need-add-parts-2 Inv-loop μ-loop Inv-loop2 μ-loop2
+add-parts-2 c = rw (c .before .before .before .before .before .before .before .before .row-runs .ensures .2) (hop-word (c .before .before .before .before .before .loop2 .inv .0) (c .before .before .before .before .loop2-test .taken))
+
+loop2-less : tie.Need-loop2-less Inv-loop μ-loop Inv-loop2 μ-loop2
+loop2-less c = omega (arith, c .before .before .before .before .loop2-test .taken, turn (c .before .before .before .before .before .loop2 .inv .0) (c .before .before .before .before .loop2-test .taken) .after)
+
+loop2-again : tie.Need-loop2-again Inv-loop μ-loop Inv-loop2 μ-loop2
+loop2-again c =
+    let g = c .before .before .before .before .before .before .before .before .before .before .before .args in
+    let v = c .before .before .before .before .before .loop2 .inv in (
+      rw (c .before .before .before .before .before .before .before .before .row-runs .ensures .2) (turn (v .0) (c .before .before .before .before .loop2-test .taken) .next),
+      c .before .before .copy-run .kept .0 ∙ v .1,
+      rw (c .before .before .copy-run .ensures) (take-turn (g .part .now) (c .before .before .before .before .before .before .before .loop .out) (v .0) (v .2) (omega (arith, c .before .before .before .before .before .before .before .before .before .before .before .pre .1, c .before .before .before .before .before .before .before .loop .inv .2)) (c .before .before .before .before .before .before .before .before .before .before .before .pre .2) _ (c .before .before .before .before .loop2-test .taken) (run-room (v .0) (c .before .before .before .before .loop2-test .taken))),
+    )
+
+sub-copy-run-2 : tie.Need-sub-copy-run-2 Inv-loop μ-loop Inv-loop2 μ-loop2
+sub-copy-run-2 c = omega (arith, c .before .before .loop2 .inv .0 .within)
+
+copy-run-requires-2 : tie.Need-copy-run-requires-2 Inv-loop μ-loop Inv-loop2 μ-loop2
 copy-run-requires-2 c κs =
-    let a = c .before .before in
-    let p = a .before .before .before .pre in
-    last-room (fits-at a) (p .1) (p .0) (a .loop .inv) (c .before .loop-test .left)
+    let q = last-room (c .before .before .loop2 .inv .0) (c .before .loop2-test .left) in
+    (omega (arith, in-client (c .before .before .before .before .before .before .before .before .pre .2) q, c .before .before .loop2 .inv .1, c .before .before .before .before .loop .inv .2, c .before .before .before .before .before .before .before .before .pre .1), omega (arith, q .row))
 
-same-length : tie.Need-same-length Inv-loop μ-loop
-same-length c = c .before .before .copy-run2 .kept .0 ∙ c .before .before .before .before .before .loop .inv .same
+same-length : tie.Need-same-length Inv-loop μ-loop Inv-loop2 μ-loop2
+same-length c = c .before .before .copy-run2 .kept .0 ∙ c .before .before .before .before .before .loop2 .inv .1 ∙ c .before .before .before .before .before .before .before .loop .inv .2
 
-returns : tie.Need-returns Inv-loop μ-loop
+returns : tie.Need-returns Inv-loop μ-loop Inv-loop2 μ-loop2
 returns c =
-    let a = c .before .before .before .before .before in
-    let p = a .before .before .before .pre in
-    rw (c .before .before .copy-run2 .ensures) (ended (fits-at a) (p .1) (p .0) (a .loop .inv) (c .before .before .before .before .loop-test .left))
+    let g = c .before .before .before .before .before .before .before .before .before .before .before .args in
+    let v = c .before .before .before .before .before .before .before .loop .inv in
+    let u = c .before .before .before .before .before .loop2 .inv in
+    c .before .before .copy-run2 .ensures
+    ∙ take-last (g .part .now) (c .before .before .before .before .before .before .before .loop .out) (u .0) (u .2) (omega (arith, c .before .before .before .before .before .before .before .before .before .before .before .pre .1, v .2)) (c .before .before .before .before .before .before .before .before .before .before .before .pre .2) (c .before .before .before .before .loop2-test .left)
+    ∙ take-on (g .part .now) (g .out .now) (v .1) (v .3) (c .before .before .before .before .before .before .before .before .before .before .before .pre .1) (c .before .before .before .before .before .before .before .before .before .before .before .pre .2)
 
 pub take-runs-spec : {M : Type 1} → statement M
 take-runs-spec =
@@ -223,28 +146,31 @@ take-runs-spec =
     (tie.spec
     Inv-loop
     μ-loop
-    mul-d
-    sub-d
-    div-q
-    rem-step
-    mul-first
-    mul-first-2
-    mul-taken
-    div-len
-    rem-over
+    Inv-loop2
+    μ-loop2
+    (λ c κs. search needs)
+    mul-from
     loop-holds
-    add-loop
-    copy-run-requires
-    add-taken
-    add-seen
-    add-seen-2
-    add-over
-    add-len
+    add-copy-pair
+    sub-copy-pair
+    copy-pair-requires
+    add-stuffed
+    add-at
+    add-parts
     loop-less
     loop-again
-    loop-less-2
-    loop-again-2
+    add-taken
+    sub-taken
+    loop2-holds
     sub-copy-run
+    copy-run-requires
+    sub-taken-2
+    add-taken-2
+    add-at-2
+    add-parts-2
+    loop2-less
+    loop2-again
+    sub-copy-run-2
     copy-run-requires-2
     same-length
     returns)
