@@ -2,33 +2,18 @@
 //! them. Both must take the settings, the states, what a call is told, the port and the tallies as
 //! this tree's odu0.h has them.
 
-use crate::{race, Job, TOLD};
-use odu0::ffi::{Settings, Sink, SinkReply, SourceReply};
-use odu0::{Expected, Source, Tallies};
+use crate::{all_jobs, best_place, best_take, race, AtOffset, Job, SinkCall, SourceCall, PAGE};
+use odu0::Tallies;
 use std::cell::RefCell;
 use std::ffi::{c_char, c_int, c_void, CString};
 use std::hint::black_box;
 use std::mem::transmute;
 
 type Check = unsafe extern "C" fn(u8, u8) -> u8;
-type SourceCall =
-    unsafe extern "C" fn(Settings, Source, u32, *const u8, usize, *mut u8, usize) -> SourceReply;
-type SinkCall = unsafe extern "C" fn(
-    Settings,
-    Sink,
-    Expected,
-    *const u8,
-    usize,
-    *mut u8,
-    usize,
-    u32,
-    *mut Tallies,
-) -> SinkReply;
 
 extern "C" {
     fn dlopen(file: *const c_char, flags: c_int) -> *mut c_void;
     fn dlsym(library: *mut c_void, name: *const c_char) -> *mut c_void;
-    fn fill_tables();
     fn table_check(jc1: u8, jc2: u8) -> u8;
     fn tables_check(jc1: u8, jc2: u8) -> u8;
     fn steps_check(jc1: u8, jc2: u8) -> u8;
@@ -63,32 +48,6 @@ impl Library {
             }
         }
     }
-
-    fn source(&self, job: &Job, frame: &mut [u8]) {
-        let (count, client) = (job.client.len() as u32, black_box(&job.client[..]));
-        let state = Source { count, multiframe: 0, payload_type: 7 };
-        let frame = black_box(frame);
-        let (at, length) = (frame.as_mut_ptr(), frame.len());
-        let settings = Settings::from(job.settings);
-        // SAFETY: the buffers are live and do not overlap.
-        let reply = unsafe {
-            (self.source)(settings, state, count, client.as_ptr(), client.len(), at, length)
-        };
-        assert_eq!(reply.refusal, 0);
-    }
-
-    fn sink(&self, job: &Job, out: &mut [u8], tallies: &mut Tallies) {
-        let (count, frame) = (job.client.len() as u32, black_box(&job.frame[..]));
-        let state = Sink::from(&job.sink());
-        let out = black_box(out);
-        let (at, length) = (out.as_mut_ptr(), out.len());
-        let settings = Settings::from(job.settings);
-        let (from, bytes) = (frame.as_ptr(), frame.len());
-        // SAFETY: the buffers and the tallies are live and do not overlap.
-        let reply =
-            unsafe { (self.sink)(settings, state, TOLD, from, bytes, at, length, 1, tallies) };
-        assert_eq!((reply.refusal, reply.handed), (0, count));
-    }
 }
 
 /// As many checks, each of which waits for the one before it.
@@ -110,52 +69,78 @@ fn agree(checks: &[Check]) {
     }
 }
 
-/// Shows what a call took after, in parts of the time before: the race in the middle of an odd
-/// number of them.
-fn show(title: &str, mut races: Vec<[f64; 2]>) {
-    let ratio = |[before, after]: &[f64; 2]| after / before;
+/// The times of the two libraries at a call, and of the best C, which only places or takes: the
+/// race in the middle of an odd number of them, by after / before. In a race they are lent the same
+/// buffers, and in each the one that is written begins at another offset in a page.
+fn middle(race_at: impl Fn(usize) -> [f64; 3]) -> [f64; 3] {
+    const RACES: usize = 21;
+    let ratio = |[before, after, _]: &[f64; 3]| after / before;
+    let mut races: Vec<[f64; 3]> = (0..RACES).map(|i| race_at(i * PAGE / RACES)).collect();
     races.sort_by(|one, other| ratio(one).total_cmp(&ratio(other)));
-    let middle = races[races.len() / 2];
-    println!("{title:<28} {:>9.1} ns   {:.3} of before", middle[1], ratio(&middle));
+    races[RACES / 2]
 }
 
-/// The times of the two libraries at a call. They are lent the same buffers, since it matters where
-/// a buffer stands.
-fn both<'a>(libraries: &'a [Library; 2], call: impl Fn(&'a Library)) -> Vec<[f64; 2]> {
-    let [before, after] = libraries.each_ref();
-    let once = |_| race([Box::new(|| call(before)), Box::new(|| call(after))]);
-    (0..31).map(once).collect()
+fn show(call: &str, (k, count): (u32, u32), [before, after, best]: [f64; 3]) {
+    println!(
+        "| {call:<6} | {k:4} | {count:5} | {before:8.1} | {after:8.1} | {:14.3} | {best:8.1} | \
+         {:10.2} | {:9.2} |",
+        after / before,
+        before / best,
+        after / best
+    );
 }
 
 pub fn main(before: &str, after: &str) {
-    let libraries = [before, after].map(Library::open);
-    for (k, count) in [(3808, 14407), (3808, 7616), (3808, 15232), (119, 450), (1, 4), (1, 0)] {
+    let libraries = &[before, after].map(Library::open);
+    println!("\nIn ns; the best C only places or takes.\n");
+    println!(
+        "| call   |    K | count |   before |    after | after / before |   best C | before / C | \
+         after / C |"
+    );
+    println!("|:---|{}", "---:|".repeat(8));
+    for (k, count) in all_jobs().chain([(1, 4), (1, 0)]) {
         let job = &Job::new(k, count);
-        let frame = &RefCell::new(job.frame.clone());
-        let out = &RefCell::new(vec![0; 4 * k as usize]);
+        let frame = &RefCell::new(AtOffset::new(&job.frame, 0));
+        let out = &RefCell::new(AtOffset::new(&job.frame, 0));
         let tallies = &RefCell::new(Tallies::new());
-        let source = |library: &Library| library.source(job, &mut frame.borrow_mut());
-        let sink =
-            |library: &Library| library.sink(job, &mut out.borrow_mut(), &mut tallies.borrow_mut());
-        for library in &libraries {
+        let source = |library: &Library| job.call_source(library.source, &mut frame.borrow_mut());
+        let sink = |library: &Library| {
+            job.call_sink(library.sink, &mut out.borrow_mut(), &mut tallies.borrow_mut())
+        };
+        for library in libraries {
             frame.borrow_mut().fill(0xEE);
             out.borrow_mut().fill(0xEE);
             source(library);
             sink(library);
-            assert!(*frame.borrow() == job.frame, "placing differs: k {k}, count {count}");
+            assert!(frame.borrow()[..] == job.frame[..], "placing differs: k {k}, count {count}");
             assert!(out.borrow().starts_with(&job.client), "taking differs: k {k}, count {count}");
         }
-        show(&format!("source call, K = {k}, {count}"), both(&libraries, source));
-        show(&format!("sink call, K = {k}, {count}"), both(&libraries, sink));
+        let [before, after] = libraries;
+        let sources = middle(|offset| {
+            frame.replace(AtOffset::new(&job.frame, offset));
+            race([
+                Box::new(|| source(before)),
+                Box::new(|| source(after)),
+                Box::new(|| job.place(best_place, &mut frame.borrow_mut())),
+            ])
+        });
+        show("source", (k, count), sources);
+        let sinks = middle(|offset| {
+            out.replace(AtOffset::new(&job.frame, offset));
+            race([
+                Box::new(|| sink(before)),
+                Box::new(|| sink(after)),
+                Box::new(|| job.take(best_take, &mut out.borrow_mut())),
+            ])
+        });
+        show("sink", (k, count), sinks);
     }
-    // SAFETY: no other thread looks at the tables.
-    unsafe { fill_tables() };
-    let [b, a] = &libraries;
+    let [b, a] = libraries;
     let checks = [b.check, a.check, table_check, tables_check, steps_check];
     agree(&checks);
     let chains = checks.map(|check| Box::new(move || chain(check)) as Box<dyn FnMut()>);
     let [before, after, table, tables, steps] = race(chains).map(|t| t / f64::from(CHECKS));
-    show("the check alone", vec![[before, after]]);
+    println!("\nThe check alone: {after:.1} ns, {:.3} of before,", after / before);
     let [table, tables, steps] = [table, tables, steps].map(|other| after / other);
-    println!("  {table:.2} of a table in C, {tables:.2} of two tables, {steps:.2} of steps");
+    println!("{table:.2} of a table in C, {tables:.2} of two tables, {steps:.2} of steps");
 }

@@ -1,11 +1,8 @@
 /*
- * The placing and the taking of client bytes in C: byte by byte, and run by run with memcpy.
- * Control bytes and tallies are the caller's. At the end the card's total, and the check, from
- * tables and by steps.
+ * The plain loops in C: the placing and the taking of client bytes byte by byte, the card's total,
+ * and the check, from tables and by steps.
  */
-#include <stddef.h>
-#include <stdint.h>
-#include <string.h>
+#include "placing.h"
 
 /* One accumulator and one branch for each payload byte. */
 void loop_place(uint8_t *frame, const uint8_t *client, size_t k, size_t c)
@@ -40,69 +37,6 @@ void loop_take(const uint8_t *frame, uint8_t *out, size_t k, size_t c)
     }
 }
 
-/*
- * Runs of client bytes between two stuffing bytes, each one memcpy; the lengths by one division for
- * the frame.
- */
-void runs_place(uint8_t *frame, const uint8_t *client, size_t k, size_t c)
-{
-    size_t s = 4 * k, d = s - c, q, r, m, e;
-    if (d == 0) {
-        for (size_t row = 0; row < 4; row++)
-            memcpy(frame + row * (k + 2) + 2, client + row * k, k);
-        return;
-    }
-    q = c / d, r = c % d, m = 0, e = 0;
-    for (size_t row = 0; row < 4; row++) {
-        uint8_t *part = frame + row * (k + 2) + 2;
-        size_t i = 0;
-        while (i + m < k) {
-            memcpy(part + i, client, m);
-            client += m;
-            i += m;
-            part[i++] = 0;
-            e += r;
-            m = q;
-            if (e >= d) {
-                e -= d;
-                m++;
-            }
-        }
-        memcpy(part + i, client, k - i);
-        client += k - i;
-        m -= k - i;
-    }
-}
-
-void runs_take(const uint8_t *frame, uint8_t *out, size_t k, size_t c)
-{
-    size_t s = 4 * k, d = s - c, q, r, m, e;
-    if (d == 0) {
-        for (size_t row = 0; row < 4; row++)
-            memcpy(out + row * k, frame + row * (k + 2) + 2, k);
-        return;
-    }
-    q = c / d, r = c % d, m = 0, e = 0;
-    for (size_t row = 0; row < 4; row++) {
-        const uint8_t *part = frame + row * (k + 2) + 2;
-        size_t i = 0;
-        while (i + m < k) {
-            memcpy(out, part + i, m);
-            out += m;
-            i += m + 1;
-            e += r;
-            m = q;
-            if (e >= d) {
-                e -= d;
-                m++;
-            }
-        }
-        memcpy(out, part + i, k - i);
-        out += k - i;
-        m -= k - i;
-    }
-}
-
 /* The tallies of eight ports and their total, as odu0.h has them. */
 struct tallies {
     uint32_t port[8][3];
@@ -121,7 +55,7 @@ struct total loop_total(const struct tallies *tallies)
     return total;
 }
 
-static uint8_t tables[2][256];
+uint8_t tables[2][256];
 
 /* Eight steps of the division. */
 static uint8_t steps(uint8_t byte)
