@@ -1,81 +1,58 @@
--- `program_stream::gather` meets its contract. What is done lies within the block, and grows with
--- each read. Assumes nothing.
-use mathlib.Core.Path.{_≡_}
-use Prim.Native.Nat.{_-_, _≤_}
+-- `program_stream::gather` meets its contract. Assumes nothing.
+use mathlib.Core.Path.{subst}
 use lib.ListN.{length}
+use Rattle.program_stream.specs.declared.Supplied.{Supplied}
+use Rattle.program_stream.specs.declared.Supplied.the-variants.{Rest as TooFew}
+use Rattle.program_stream.specs.Gather.{Fills}
 use borrow.Author.Needs.{needs}
 use Rattle.program_stream.proofs.gather.Statement.{statement}
 use Rattle.program_stream.proofs.gather.Tie as tie
 
-abbrev Inv-loop : tie.InvT-loop
-Inv-loop descriptor block₀ done₀ block done = (done ≤ length block) × (length block ≡ length block₀)
+read-behind-requires : tie.Need-read-behind-requires
+read-behind-requires c κs = search needs
 
-abbrev μ-loop : tie.MeasureT-loop
-μ-loop descriptor block₀ done₀ block done = length block - done
+enum-told : tie.Need-enum-told
+enum-told c = search needs
 
-loop-holds : tie.Need-loop-holds Inv-loop μ-loop
-loop-holds c = search needs
+enum-known-got : tie.Need-enum-known-got
+enum-known-got c = search needs
 
-sub-part : tie.Need-sub-part Inv-loop μ-loop
-sub-part c = search needs
+enum-told-2 : tie.Need-enum-told-2
+enum-told-2 c = search needs
 
-part-part-start : tie.Need-part-part-start Inv-loop μ-loop
-part-part-start c = search needs
-
-part-part-end : tie.Need-part-part-end Inv-loop μ-loop
-part-part-end c = search needs
-
-read-requires : tie.Need-read-requires Inv-loop μ-loop
-read-requires c κs = search needs
-
-same-length : tie.Need-same-length Inv-loop μ-loop
+same-length : tie.Need-same-length
 same-length c = search needs
 
-returns : tie.Need-returns Inv-loop μ-loop
+returns : tie.Need-returns
 returns c = search needs
 
-count-requires : tie.Need-count-requires Inv-loop μ-loop
-count-requires c κs = search needs
-
-same-length-2 : tie.Need-same-length-2 Inv-loop μ-loop
+same-length-2 : tie.Need-same-length-2
 same-length-2 c = search needs
 
-returns-2 : tie.Need-returns-2 Inv-loop μ-loop
-returns-2 c = search needs
+returns-2 : tie.Need-returns-2
+returns-2 c =
+    let g = c .before .before .before .before .before .before .before .before .args in
+    let w = c .before .before .before .before .before .read-behind in
+    let rest : Fills (g .block .now) 0 (length (g .block .now)) (TooFew (c .before .got .given .0 .0)) (w .last .1 .0) = subst (λ (r : Supplied). Fills (g .block .now) 0 (length (g .block .now)) r (w .last .1 .0)) (c .before .got .given .1) (w .ensures) in
+    rest .1
 
-add-done : tie.Need-add-done Inv-loop μ-loop
-add-done c = search needs
-
-loop-less : tie.Need-loop-less Inv-loop μ-loop
-loop-less c = search needs
-
-loop-again : tie.Need-loop-again Inv-loop μ-loop
-loop-again c = search needs
-
-same-length-3 : tie.Need-same-length-3 Inv-loop μ-loop
+same-length-3 : tie.Need-same-length-3
 same-length-3 c = search needs
 
-returns-3 : tie.Need-returns-3 Inv-loop μ-loop
+returns-3 : tie.Need-returns-3
 returns-3 c = search needs
 
 pub gather-spec : {M : Type 1} → statement M
 gather-spec =
     tie.close
     (tie.spec
-    Inv-loop
-    μ-loop
-    loop-holds
-    sub-part
-    part-part-start
-    part-part-end
-    read-requires
+    read-behind-requires
+    enum-told
+    enum-known-got
+    enum-told-2
     same-length
     returns
-    count-requires
     same-length-2
     returns-2
-    add-done
-    loop-less
-    loop-again
     same-length-3
     returns-3)
