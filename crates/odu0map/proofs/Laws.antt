@@ -1,23 +1,21 @@
 -- A mapper that the keeper lets begin goes on for ever: neither the keeper nor the source refuses a
 -- call. Assumes nothing.
-use mathlib.Core.Path.{_≡_, refl, sym, ap, ap₂, subst, _∙_}
+use mathlib.Core.Path.{_≡_, refl, sym, ap, ap₂, _∙_}
 use mathlib.Core.Bool.{Bool, true, false, not, cond}
-use mathlib.Core.List.{List, [], _∷_}
-use Prim.Native.Nat.{ℕ, _+_, _%_, _≤_, _<_}
+use mathlib.Core.List.{List}
+use Prim.Native.Nat.{ℕ, _+_, _<_}
 use native.Mathlib.Nat.{mod-lt}
-use native.Mathlib.Numerals.{add-one}
 use native.Mathlib.Omega.{arith}
 use lib.Dec.{eqb, lit<}
 use lib.ListN.{length}
 use borrow.Author.Tests.{eqb-true, eq-eqb, lt-leb}
 use Rattle.gmp_settings.specs.declared.Settings.{Settings}
 use Rattle.gmp_refusal.specs.declared.Refusal.{Refusal}
-use Rattle.gmp_refusal.specs.declared.Refusal.the-variants.{Grid, Window, Divisor, Rate as BadRate, State, Count, Client, Frame, Space}
 use Rattle.refusals.specs.Table.{accepted, refused, answerBy}
 use Rattle.gmp_refusal.specs.Refusal.{refusalNumber}
 use Rattle.gmp_settings.specs.Settings.{opu0, outside}
 use Rattle.refusals.proofs.Laws.{none-applies}
-use Rattle.gmp_settings.proofs.Laws.{all-passed, inside-window}
+use Rattle.gmp_settings.proofs.Laws.{all-passed}
 use Rattle.gmp_rate.specs.declared.KeeperResult.{KeeperResult}
 use Rattle.gmp_rate.specs.declared.KeeperAnswer.the-variants.{Next, Refused}
 use Rattle.gmp_rate.specs.Rate.{badDivisor, badRate, badRemainder, keeperReasons, keeperRefusal, Kept, answerMeaning, resultMeaning, keeperCall, firstRemainder}
@@ -30,7 +28,7 @@ use Rattle.gmp_source.specs.Source.{startRefusal, startState, newSource, startM
 use Rattle.gmp_source.proofs.Laws.{state-accepted, frame-accepted}
 use Rattle.odu0map.specs.declared.Rate.{Rate}
 use Rattle.odu0map.specs.declared.Mapper.{Mapper}
-use Rattle.odu0map.specs.Mapping.{countFrom, keptFrom, refusalFrom, newMapper, startAnswer, Ready, mapped, Maps, mapperAfter, bytesAfter}
+use Rattle.odu0map.specs.Mapping.{countFrom, keptFrom, refusalFrom, newMapper, startAnswer, Ready, Maps}
 
 -- tables to which no line applies
 three-pass : (a b c : Bool) → a ≡ false → b ≡ false → c ≡ false → _≡_ {A = ℕ} (cond a 3 (cond b 4 (cond c 5 0))) 0
@@ -60,10 +58,6 @@ goes-on a r m e count kept =
       keeper = ap (refusalFrom a) kept ∙ any-remainder a r (keptFrom a r) e (mod-lt (r + a .p) (k .positive));
       count = ap (outside opu0) count ∙ count-inside opu0 (a .p) (a .q) r k;
     }
-
--- the count of a mapper that goes on
-pub ready-le : (a : Rate) (m : Mapper) → Ready a m → m .source .count ≤ 14410
-ready-le a m h = inside-window opu0 (m .source .count) (h .count) .1
 
 -- what an answer by a number tells of the number
 by-number : {A : Type 0} (n : ℕ) (x y : A) → accepted x ≡ answerBy n y → (n ≡ 0) × (x ≡ y)
@@ -178,40 +172,3 @@ unfolding startAnswer
 starts-ready a m e =
     let g = by-number (refusalFrom a (firstRemainder (a .q))) m (newMapper a) e in
     goes-on a (firstRemainder (a .q)) m (g .0) (ap (λ (y : Mapper). y .source .count) (g .1)) (ap (λ (y : Mapper). y .remainder) (g .1))
-
--- one frame more
-mapper-after-next : (a : Rate) (m : Mapper) (n : ℕ) → mapped a (mapperAfter a m n) ≡ mapperAfter a m (n + 1)
-unfolding mapperAfter
-mapper-after-next a m n = ap (mapperAfter a m) (sym (add-one n))
-
-bytes-after-next : (a : Rate) (m : Mapper) (n : ℕ) → bytesAfter a m (n + 1) ≡ bytesAfter a m n + mapperAfter a m n .source .count
-unfolding bytesAfter
-bytes-after-next a m n = rw add-one
-
--- A run of the mapper: after so many frames from m₀ it is at m, and its frames carry so many client
--- bytes, modulo 2^64.
-pub record Along (a : Rate) (m₀ m : Mapper) (frames bytes : ℕ) : Type 0 where
-  pub ready : Ready a m
-  pub few : frames ≤ 18446744073709551615
-  pub at : m ≡ mapperAfter a m₀ frames
-  pub sum : bytes ≡ bytesAfter a m₀ frames % 18446744073709551616
-
-pub along-start : (a : Rate) (m : Mapper) → Ready a m → Along a m m 0 0
-unfolding mapperAfter bytesAfter
-along-start a m h = record { ready = h; few = omega arith; at = refl; sum = refl }
-
-pub along-next : (a : Rate) (m₀ m : Mapper) (n b : ℕ) → Along a m₀ m n b → n < 18446744073709551615
-    → (r : Mapper) → (r ≡ mapped a m) × Ready a r → (c : ℕ) → c ≡ (b + m .source .count) % 18446744073709551616 → Along a m₀ r (n + 1) c
-along-next a m₀ m n b l h r goes c e =
-    record {
-      ready = goes .1;
-      few = omega arith;
-      at = goes .0 ∙ ap (mapped a) (l .at) ∙ next-mapper;
-      sum = omega (arith, e, l .sum, ap (λ (x : Mapper). x .source .count) (l .at), next-bytes);
-    }
-  where
-    next-mapper : mapped a (mapperAfter a m₀ n) ≡ mapperAfter a m₀ (n + 1)
-    next-mapper = mapper-after-next a m₀ n
-
-    next-bytes : bytesAfter a m₀ (n + 1) ≡ bytesAfter a m₀ n + mapperAfter a m₀ n .source .count
-    next-bytes = bytes-after-next a m₀ n

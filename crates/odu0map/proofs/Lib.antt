@@ -1,2 +1,3 @@
 -- The program odu0map. Assumes nothing.
 mod Laws
+mod Loads

@@ -1,8 +1,10 @@
 -- What the program maps: the paper's source over its rate keeper, at OPU0's size. Assumes nothing.
 use mathlib.Core.Path.{_≡_}
 use mathlib.Core.Bool.{false}
-use mathlib.Core.List.{List}
-use Prim.Native.Nat.{ℕ, zero, suc, _+_, _/_, _%_}
+use mathlib.Core.Logic.{_⊎_}
+use mathlib.Core.List.{List, [], _++_}
+use Prim.Native.Nat.{ℕ, zero, suc, _+_, _-_, _*_, _/_, _%_, _≤_, _<_}
+use lib.ListN.{length, take, drop}
 use Rattle.refusals.specs.Table.{Answer, accepted, refused, answerBy}
 use Rattle.gmp_refusal.specs.Refusal.{refusalNumber}
 use Rattle.gmp_settings.specs.Settings.{opu0, outside}
@@ -13,6 +15,8 @@ use Rattle.odu0map.specs.declared.Mapper.{Mapper}
 use Rattle.odu0map.specs.declared.Start.{Start}
 use Rattle.odu0map.specs.declared.Start.the-variants.{New, Refused}
 use Rattle.odu0map.specs.declared.Totals.{Totals}
+use Rattle.program_stream.specs.Gather.{heldBytes}
+use Rattle.odu0map.specs.declared.Batch.{Batch}
 use Rattle.odu0map.specs.declared.Next.{Next}
 use Rattle.odu0map.specs.declared.Next.the-variants.{From, End}
 
@@ -53,11 +57,6 @@ pub record Ready (a : Rate) (m : Mapper) : Type 0 where
 abbrev pub mapped : Rate → Mapper → Mapper
 mapped a m = record { source = nextState (m .source) (countFrom a (m .remainder)); remainder = keptFrom a (m .remainder) }
 
--- what is gone on from: the mapper after the frame, which is ready again
-abbrev pub Goes : Rate → Mapper → Next → Type 0
-Goes a m (From r) = (r ≡ mapped a m) × Ready a r
-Goes a m End = Unit
-
 -- A load mapped: the mapper after it, which goes on, and every byte of the frame, which announces
 -- the keeper's next count.
 pub record Maps (a : Rate) (m : Mapper) (load : List ℕ) (r : Mapper) (frame : List ℕ) : Type 0 where
@@ -73,6 +72,44 @@ mapperAfter a m (suc n) = mapped a (mapperAfter a m n)
 unfoldable pub bytesAfter : Rate → Mapper → ℕ → ℕ
 bytesAfter a m zero = 0
 bytesAfter a m (suc n) = bytesAfter a m n + mapperAfter a m n .source .count
+
+-- the load behind n loads of a client's bytes, and its frame
+abbrev pub loadAt : Rate → Mapper → List ℕ → ℕ → List ℕ
+loadAt a m client n = take (mapperAfter a m n .source .count) (drop (bytesAfter a m n) client)
+
+abbrev pub frameAt : Rate → Mapper → List ℕ → ℕ → List ℕ
+frameAt a m client n = written opu0 (mapperAfter a m n .source) (countFrom a (mapperAfter a m n .remainder)) (loadAt a m client n)
+
+-- the frames of the first n loads of a client's bytes
+unfoldable pub framesAfter : Rate → Mapper → List ℕ → ℕ → List ℕ
+framesAfter a m client zero = []
+framesAfter a m client (suc n) = framesAfter a m client n ++ frameAt a m client n
+
+-- Loads mapped: the mapper after them, which goes on, and the client bytes that they took. No whole
+-- load is left, but behind 16 of them.
+pub record Batched (a : Rate) (m : Mapper) (client : List ℕ) (r : Batch) : Type 0 where
+  pub mapper : r .mapper ≡ mapperAfter a m (r .frames)
+  pub ready : Ready a (r .mapper)
+  pub bytes : r .bytes ≡ bytesAfter a m (r .frames)
+  pub within : r .bytes ≤ length client
+  pub few : r .frames ≤ 16
+  pub all : (r .frames ≡ 16) ⊎ (length client - r .bytes < r .mapper .source .count)
+
+-- and every byte of their frames
+pub record MapsLoads (a : Rate) (m : Mapper) (client : List ℕ) (r : Batch) (frames : List ℕ) : Type 0 where
+  pub batch : Batched a m client r
+  pub frame-bytes : take (15240 * r .frames) frames ≡ framesAfter a m client (r .frames)
+
+-- What is gone on from, where these client bytes were held: one load or more is mapped, and the
+-- bytes behind are held on.
+abbrev pub Goes : Rate → Mapper → List ℕ → Next → List ℕ → Type 0
+Goes a m client (From r h) block = Batched a m client r × (0 < r .frames) × (heldBytes h block ≡ drop (r .bytes) client)
+Goes a m client End block = Unit
+
+-- and where more is read: the client bytes begin with those that were held before
+abbrev pub GoesOn : Rate → Mapper → List ℕ → Next → List ℕ → Type 0
+GoesOn a m old (From r h) block = (client : List ℕ) × (take (length old) client ≡ old) × Goes a m client (From r h) block
+GoesOn a m old End block = Unit
 
 -- What is told at the end: so many frames carry so many client bytes, modulo 2^64.
 abbrev pub Counts : Rate → Mapper → Totals → Type 0

@@ -11,10 +11,12 @@ use gmp_source::SourceState;
 use libc::STDERR_FILENO;
 use libc::STDIN_FILENO;
 use program_decimal::Number;
-use program_stream::Got;
+use program_stream::Held;
+use program_stream::Supplied;
 ghost use mathlib.Core.Path.{_≡_};
 ghost use lib.ListN.{length};
-ghost use Rattle.odu0map.specs.Mapping.{Ready, startMeaning, startAnswer, Goes, Maps, Counts};
+ghost use Rattle.program_stream.specs.Gather.{heldBytes, Has};
+ghost use Rattle.odu0map.specs.Mapping.{Ready, startMeaning, startAnswer, framesAfter, Goes, GoesOn, Maps, MapsLoads, Counts};
 
 // The rate p / q.
 struct Rate {
@@ -40,15 +42,23 @@ enum Start {
     Refused(Refusal),
 }
 
-// How many frames were written, and the client bytes that they carry, modulo 2^64.
+// The frames of the writes that were done, and the client bytes that they carry, modulo 2^64.
 struct Totals {
     frames: u64,
     bytes: u64,
 }
 
-// The mapper to go on from, or that there is nothing more to map.
+// What some loads came to: the mapper after them, the number of their frames, and the client bytes
+// that these carry.
+struct Batch {
+    mapper: Mapper,
+    frames: usize,
+    bytes: usize,
+}
+
+// What was mapped, with the client bytes held behind it, or that there is nothing more to map.
 enum Next {
-    From(Mapper),
+    From(Batch, Held),
     End,
 }
 
@@ -120,78 +130,130 @@ fn new_mapper(rate: Rate) -> Start
     }
 }
 
-// Maps load after load, each frame by the mapper that the frame before it left. A proved loop has
-// to end: this one does at the largest frame number, which no run reaches.
+// Maps load after load, with room for 16 of the largest loads and for their frames.
 fn map_all(rate: Rate, new: Mapper) -> Totals
     requires { ⌜ Ready rate new ⌝ }
     ensures { λ r. ⌜ Counts rate new r ⌝ }
 {
+    let mut client = [0u8; 230560];
+    let mut frames = [0u8; 243840];
+    map_stream(rate, new, &mut client, &mut frames)
+}
+
+// Maps batch after batch, each by the mapper that the one before it left. Where a batch cannot be
+// written the totals are those of the batches before it. A proved loop has to end: this one does
+// where the number of frames could grow past 64 bits, which no input reaches.
+fn map_stream(rate: Rate, new: Mapper, client: &mut [u8], frames: &mut [u8]) -> Totals
+    requires { ⌜ Ready rate new × (length (now client) ≡ 230560) × (length (now frames) ≡ 243840) ⌝ }
+    ensures { λ r. ⌜ Counts rate new r ⌝ }
+{
     let mut mapper = new;
-    let mut frames: u64 = 0;
+    let mut held = Held { at: 0, end: 0 };
+    let mut written: u64 = 0;
     let mut bytes: u64 = 0;
-    while frames < u64::MAX {
-        let count = mapper.source.count as u64;
-        let next = map_next(rate, mapper);
-        let Next::From(after) = next else {
+    while written < u64::MAX - 16 {
+        let next = map_next(rate, mapper, held, client, frames);
+        let Next::From(batch, behind) = next else {
             return Totals {
-                frames: frames,
+                frames: written,
                 bytes: bytes,
             };
         };
-        mapper = after;
-        frames += 1;
-        bytes = std::num::wrapping_add_u64(bytes, count);
+        mapper = batch.mapper;
+        held = behind;
+        written += batch.frames as u64;
+        bytes = std::num::wrapping_add_u64(bytes, batch.bytes as u64);
     }
     Totals {
-        frames: frames,
+        frames: written,
         bytes: bytes,
     }
 }
 
-// Maps the next load, with room for the largest.
-fn map_next(rate: Rate, mapper: Mapper) -> Next
-    requires { ⌜ Ready rate mapper ⌝ }
-    ensures { λ r. ⌜ Goes rate mapper r ⌝ }
+// Reads on until a whole load is held, and maps all that are, or says what is left where the input
+// ends.
+fn map_next(rate: Rate, mapper: Mapper, held: Held, client: &mut [u8], frames: &mut [u8]) -> Next
+    requires { ⌜ Ready rate mapper × (length (now client) ≡ 230560) × (length (now frames) ≡ 243840) ⌝ }
+    ensures { λ r. ⌜ GoesOn rate mapper (heldBytes held (now (client .entry))) r (now (client .exit)) ⌝ }
 {
-    let mut client = [0u8; 14410];
-    take_load(rate, mapper, &mut client)
-}
-
-// Reads a load, the present count of client bytes, and maps it, or says what is left where the
-// input ends.
-fn take_load(rate: Rate, mapper: Mapper, client: &mut [u8]) -> Next
-    requires { ⌜ Ready rate mapper × (length (now client) ≡ 14410) ⌝ }
-    ensures { λ r. ⌜ Goes rate mapper r ⌝ }
-{
-    let load = &mut client[..mapper.source.count as usize];
-    let got = program_stream::gather(STDIN_FILENO, load);
-    let Got::Whole = got else {
+    let least = mapper.source.count as usize;
+    let got = program_stream::supply(STDIN_FILENO, client, held, least);
+    let Supplied::Enough(more) = got else {
         show_end(got);
         return Next::End;
     };
-    map_load(rate, mapper, load)
+    map_held(rate, mapper, more, client, frames)
 }
 
 // Says what is left where the input ends, or why it could not be read.
-fn show_end(got: Got) {
-    let Got::Rest(left) = got else {
+fn show_end(got: Supplied) {
+    let Supplied::Rest(left) = got else {
         os::fail(b"odu0map: standard input");
         return;
     };
     program_stream::say_left(b"odu0map: ", left);
 }
 
-// Maps a load and writes its frame. Where that fails nothing more is mapped.
-fn map_load(rate: Rate, mapper: Mapper, load: &[u8]) -> Next
-    requires { ⌜ Ready rate mapper × (length (now load) ≡ mapper .source .count) ⌝ }
-    ensures { λ r. ⌜ Goes rate mapper r ⌝ }
+// Maps the loads that are held and writes their frames. Where that fails nothing more is mapped.
+fn map_held(rate: Rate, mapper: Mapper, held: Held, client: &[u8], frames: &mut [u8]) -> Next
+    requires { ⌜ Ready rate mapper × Has (mapper .source .count) held (now client) × (length (now client) ≡ 230560) × (length (now frames) ≡ 243840) ⌝ }
+    ensures { λ r. ⌜ Goes rate mapper (heldBytes held (now (client .entry))) r (now (client .entry)) ⌝ }
 {
-    let mut frame = [0u8; 15240];
-    let after = make_frame(rate, mapper, load, &mut frame);
-    if program_stream::write_out(&frame, b"odu0map: standard output") {
-        return Next::From(after);
+    let at = held.at;
+    let end = held.end;
+    let loads = &client[at..end];
+    let batch = map_loads(rate, mapper, loads, frames);
+    let length = 15240 * batch.frames;
+    if write_frames(rate, mapper, loads, batch.frames, &frames[..length]) {
+        return Next::From(
+            batch,
+            Held {
+                at: at + batch.bytes,
+                end: end,
+            },
+        );
     }
     Next::End
+}
+
+// Writes the frames of so many loads, all of them and in order, or says why that failed.
+fn write_frames(rate: Rate, mapper: Mapper, loads: &[u8], number: usize, frames: &[u8]) -> bool
+    requires { ⌜ now frames ≡ framesAfter rate mapper (now loads) number ⌝ }
+{
+    program_stream::write_out(frames, b"odu0map: standard output")
+}
+
+// Maps the whole loads at the start of the client bytes, at most 16, each by the mapper that the
+// one before it left.
+fn map_loads(rate: Rate, first: Mapper, client: &[u8], frames: &mut [u8]) -> Batch
+    requires { ⌜ Ready rate first × (length (now frames) ≡ 243840) ⌝ }
+    ensures { λ r. ⌜ MapsLoads rate first (now (client .entry)) r (now (frames .exit)) ⌝ }
+{
+    let mut mapper = first;
+    let mut at = 0;
+    let mut number = 0;
+    while number < 16 {
+        let count = mapper.source.count as usize;
+        if client.len() - at < count {
+            return Batch {
+                mapper: mapper,
+                frames: number,
+                bytes: at,
+            };
+        }
+        let end = at + count;
+        let place = 15240 * number;
+        let place_end = place + 15240;
+        let load = &client[at..end];
+        mapper = make_frame(rate, mapper, load, &mut frames[place..place_end]);
+        at = end;
+        number += 1;
+    }
+    Batch {
+        mapper: mapper,
+        frames: number,
+        bytes: at,
+    }
 }
 
 // Makes the frame of a load, which announces the keeper's next count. Neither the keeper nor the
@@ -214,7 +276,7 @@ fn make_frame(rate: Rate, mapper: Mapper, load: &[u8], frame: &mut [u8]) -> Mapp
     }
 }
 
-// Says how many frames were written, and how many client bytes they carry.
+// Says how many frames the writes had that were done, and how many client bytes they carry.
 fn show_totals(totals: Totals) {
     program_stream::say(b"odu0map: frames ", totals.frames);
     program_stream::say_line(b", bytes ", totals.bytes);
