@@ -2,15 +2,17 @@
 -- or without, and with the type check or without. Assumes nothing.
 use mathlib.Core.Path.{_≡_}
 use mathlib.Core.Bool.{Bool, true, false, cond, _&&_}
-use mathlib.Core.List.{List, foldl}
-use Prim.Native.Nat.{ℕ, _+_, _%_}
+use mathlib.Core.Logic.{_⊎_}
+use mathlib.Core.List.{List, [], _∷_, _++_, foldl}
+use Prim.Native.Nat.{ℕ, zero, suc, _+_, _-_, _*_, _%_, _≤_, _<_}
 use lib.Dec.{eqb}
-use lib.ListN.{length, getD, take}
+use lib.ListN.{length, getD, take, drop}
 use Rattle.io.specs.Counts.{Counts}
 use Rattle.gmp_settings.specs.declared.Settings.{Settings}
 use Rattle.gmp_settings.specs.Settings.{withMending, withTypeCheck, opu0}
 use Rattle.gmp_standing.specs.declared.Count.{Count}
 use Rattle.gmp_standing.specs.declared.Count.the-variants.{Known, Unknown}
+use Rattle.gmp_standing.specs.declared.Standing.{Standing}
 use Rattle.gmp_standing.specs.Standing.{Finding, standingMeaning, standingNumber}
 use Rattle.gmp_payload_type.specs.declared.AcceptedType.{AcceptedType}
 use Rattle.gmp_payload_type.specs.declared.AcceptedType.the-variants.{PayloadType, NoType}
@@ -23,6 +25,10 @@ use Rattle.card_sink.specs.Card.{badFrames}
 use Rattle.odu0demap.specs.declared.Wanted.{Wanted}
 use Rattle.odu0demap.specs.declared.Demapper.{Demapper}
 use Rattle.odu0demap.specs.declared.Taken.{Taken}
+use Rattle.program_stream.specs.Gather.{heldBytes}
+use Rattle.odu0demap.specs.declared.Run.{Run}
+use Rattle.odu0demap.specs.declared.Told.{Told}
+use Rattle.odu0demap.specs.declared.Told.the-variants.{Nothing, Last}
 use Rattle.odu0demap.specs.declared.Next.{Next}
 use Rattle.odu0demap.specs.declared.Next.the-variants.{From, End}
 
@@ -91,16 +97,6 @@ sameType (PayloadType n) NoType = false
 sameType NoType (PayloadType m) = false
 sameType NoType NoType = true
 
--- what is gone on from
-abbrev pub Goes : Wanted → Demapper → List ℕ → Next → Type 0
-Goes w d frame (From r) = r ≡ demapperAfter w d frame
-Goes w d frame End = Unit
-
--- and where the frame is read: the demapper after some frame of OPU0's length
-abbrev pub GoesOn : Wanted → Demapper → Next → Type 0
-GoesOn w d (From r) = (frame : List ℕ) × (length frame ≡ 15240) × (r ≡ demapperAfter w d frame)
-GoesOn w d End = Unit
-
 -- all frames: the demapper at the end is a new one after some frames, each once and in order
 abbrev pub DemapsAll : Wanted → Demapper → Type 0
 DemapsAll w r = (frames : List (List ℕ)) × (r ≡ foldl (demapperAfter w) newDemapper frames)
@@ -114,3 +110,74 @@ pub record Takes (w : Wanted) (d : Demapper) (frame : List ℕ) (r : Taken) (out
   pub length-is : r .handed ≡ length (handedBytes w d frame)
   pub within : Counts (r .handed) out
   pub bytes : take (r .handed) out ≡ handedBytes w d frame
+
+-- nothing is to be told of a frame: it is silent, and the accepted type stays
+abbrev pub isQuiet : Demapper → Finding → Bool → Demapper → Bool
+isQuiet d f mended after = isSilent d f mended && sameType (d .state .types .accepted) (after .state .types .accepted)
+
+unfoldable pub quiet : Wanted → Demapper → List ℕ → Bool
+quiet w d frame = isQuiet d (standingOf w d frame) (mendedIn (settingsOf w) (control frame)) (demapperAfter w d frame)
+
+-- the frame behind the first n frames of some bytes, and these n
+abbrev pub frameAt : ℕ → List ℕ → List ℕ
+frameAt n bytes = take 15240 (drop (15240 * n) bytes)
+
+unfoldable pub framesIn : ℕ → List ℕ → List (List ℕ)
+framesIn zero bytes = []
+framesIn (suc n) bytes = framesIn n bytes ++ (frameAt n bytes ∷ [])
+
+-- Over frames, one after the other: the demapper after them, the client bytes that they hand out,
+-- and that nothing is to be told of any.
+abbrev pub demapperOver : Wanted → Demapper → List (List ℕ) → Demapper
+demapperOver w d frames = foldl (demapperAfter w) d frames
+
+unfoldable pub handedOver : Wanted → Demapper → List (List ℕ) → List ℕ
+handedOver w d [] = []
+handedOver w d (f ∷ fs) = handedBytes w d f ++ handedOver w (demapperAfter w d f) fs
+
+unfoldable pub allQuiet : Wanted → Demapper → List (List ℕ) → Bool
+allQuiet w d [] = true
+allQuiet w d (f ∷ fs) = quiet w d f && allQuiet w (demapperAfter w d f) fs
+
+-- A frame of which something is to be told, behind n frames of which nothing is: the demapper
+-- before it, its standing, and whether it was mended.
+pub record Tells (w : Wanted) (d : Demapper) (bytes : List ℕ) (n : ℕ) (before : Demapper) (s : Standing) (m : Bool) : Type 0 where
+  pub earlier : allQuiet w d (framesIn n bytes) ≡ true
+  pub demapper : before ≡ demapperOver w d (framesIn n bytes)
+  pub loud : quiet w before (frameAt n bytes) ≡ false
+  pub standing : standingMeaning s ≡ standingOf w before (frameAt n bytes)
+  pub mended : m ≡ mendedIn (settingsOf w) (control (frameAt n bytes))
+
+-- What is to be told of the first n frames: something of the last only, or nothing of any, where no
+-- whole frame is left or they are 16.
+abbrev pub Telling : Wanted → Demapper → List ℕ → ℕ → Demapper → Told → Type 0
+Telling w d bytes n before Nothing = (allQuiet w d (framesIn n bytes) ≡ true) × ((n ≡ 16) ⊎ (length bytes - 15240 * n < 15240))
+Telling w d bytes n before (Last s m) = (k : ℕ) × (n ≡ k + 1) × Tells w d bytes k before s m
+
+-- Frames taken one after the other, as above: the demapper after them, and the client bytes, all
+-- and in order, at the start of the output buffer, with their number.
+pub record Runs (w : Wanted) (d : Demapper) (bytes : List ℕ) (r : Run) (out : List ℕ) : Type 0 where
+  pub few : r .frames ≤ 16
+  pub whole : 15240 * r .frames ≤ length bytes
+  pub after : r .after ≡ demapperOver w d (framesIn (r .frames) bytes)
+  pub within : Counts (r .handed) out
+  pub handed : take (r .handed) out ≡ handedOver w d (framesIn (r .frames) bytes)
+  pub told : Telling w d bytes (r .frames) (r .before) (r .told)
+
+-- What is gone on from, where these bytes were held: one frame or more is taken, and the bytes
+-- behind are held on.
+pub record TakesFrames (w : Wanted) (d : Demapper) (bytes : List ℕ) (r : Demapper) (n : ℕ) (behind : List ℕ) : Type 0 where
+  pub some : 0 < n
+  pub few : n ≤ 16
+  pub whole : 15240 * n ≤ length bytes
+  pub after : r ≡ demapperOver w d (framesIn n bytes)
+  pub held : behind ≡ drop (15240 * n) bytes
+
+abbrev pub Goes : Wanted → Demapper → List ℕ → Next → List ℕ → Type 0
+Goes w d bytes (From r n h) block = TakesFrames w d bytes r n (heldBytes h block)
+Goes w d bytes End block = Unit
+
+-- and where more is read: the bytes begin with those that were held before
+abbrev pub GoesOn : Wanted → Demapper → List ℕ → Next → List ℕ → Type 0
+GoesOn w d old (From r n h) block = (bytes : List ℕ) × (take (length old) bytes ≡ old) × Goes w d bytes (From r n h) block
+GoesOn w d old End block = Unit

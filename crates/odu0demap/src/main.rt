@@ -16,12 +16,16 @@ use gmp_standing::Standing;
 use libc::STDERR_FILENO;
 use libc::STDIN_FILENO;
 use program_decimal::Number;
-use program_stream::Got;
+use program_stream::Held;
+use program_stream::Supplied;
 ghost use mathlib.Core.Path.{_≡_};
-ghost use Prim.Native.Nat.{_≤_};
+ghost use mathlib.Core.Bool.{true};
+ghost use Prim.Native.Nat.{_≤_, _<_};
 ghost use lib.ListN.{length};
+ghost use Rattle.io.specs.Counts.{Counts};
 ghost use Rattle.gmp_standing.specs.Standing.{standingMeaning};
-ghost use Rattle.odu0demap.specs.Demapping.{isWord, newDemapper, sameCount, isSame, isSilent, sameType, Goes, GoesOn, DemapsAll, Takes};
+ghost use Rattle.program_stream.specs.Gather.{heldBytes, Has};
+ghost use Rattle.odu0demap.specs.Demapping.{isWord, newDemapper, sameCount, isSame, isSilent, sameType, isQuiet, framesIn, handedOver, Goes, GoesOn, DemapsAll, Takes, Runs};
 
 // What the arguments ask for: mending, the type check, and the type expected.
 struct Wanted {
@@ -48,9 +52,27 @@ struct Taken {
     after: Demapper,
 }
 
-// The demapper to go on from, or that there is no more to hand out.
+// What is to be told of a run of frames: nothing, or of its last frame the standing, and whether it
+// was mended.
+enum Told {
+    Nothing,
+    Last(Standing, bool),
+}
+
+// What a run of frames came to: their number, the bytes handed out, the demapper before the last of
+// them and after it, and what is to be told.
+struct Run {
+    frames: usize,
+    handed: usize,
+    before: Demapper,
+    after: Demapper,
+    told: Told,
+}
+
+// The demapper to go on from, the number of frames taken and the bytes held behind them, or that
+// there is no more to hand out.
 enum Next {
-    From(Demapper),
+    From(Demapper, usize, Held),
     End,
 }
 
@@ -152,20 +174,33 @@ fn is_word(text: &[u8], one: u8, two: u8, three: u8, four: u8) -> bool
     text[3] == four
 }
 
-// Takes frame after frame from a new demapper on, and gives the demapper at their end. A proved
-// loop has to end: this one does at the largest frame number, which no run reaches.
+// Takes all frames, with room for 16 of them and for the largest loads that these can carry.
 fn demap_all(wanted: Wanted) -> Demapper
     ensures { λ r. ⌜ DemapsAll wanted r ⌝ }
 {
+    let mut frames = [0u8; 243840];
+    let mut out = [0u8; 230560];
+    demap_stream(wanted, &mut frames, &mut out)
+}
+
+// Takes run after run of frames from a new demapper on, and gives the demapper at their end: that
+// of the last run whose bytes were written. A proved loop has to end: this one does where the
+// number of frames could grow past 64 bits, which no input reaches.
+fn demap_stream(wanted: Wanted, frames: &mut [u8], out: &mut [u8]) -> Demapper
+    requires { ⌜ (length (now frames) ≡ 243840) × (length (now out) ≡ 230560) ⌝ }
+    ensures { λ r. ⌜ DemapsAll wanted r ⌝ }
+{
     let mut demapper = new_demapper();
-    let mut frame_number: u64 = 0;
-    while frame_number < u64::MAX {
-        frame_number += 1;
-        let next = take_next(wanted, frame_number, demapper);
-        let Next::From(after) = next else {
+    let mut held = Held { at: 0, end: 0 };
+    let mut taken: u64 = 0;
+    while taken < u64::MAX - 16 {
+        let next = take_next(wanted, taken, demapper, held, frames, out);
+        let Next::From(after, number, behind) = next else {
             return demapper;
         };
         demapper = after;
+        held = behind;
+        taken += number as u64;
     }
     demapper
 }
@@ -187,45 +222,123 @@ fn new_demapper() -> Demapper
     }
 }
 
-// Reads the next frame and takes it, or says what is left where the input ends.
-fn take_next(wanted: Wanted, frame_number: u64, demapper: Demapper) -> Next
-    ensures { λ r. ⌜ GoesOn wanted demapper r ⌝ }
+// Reads on until a whole frame is held, and takes the next run of them, or says what is left where
+// the input ends.
+fn take_next(
+    wanted: Wanted,
+    taken: u64,
+    demapper: Demapper,
+    held: Held,
+    frames: &mut [u8],
+    out: &mut [u8],
+) -> Next
+    requires { ⌜ (taken < 18446744073709551599) × (length (now frames) ≡ 243840) × (length (now out) ≡ 230560) ⌝ }
+    ensures { λ r. ⌜ GoesOn wanted demapper (heldBytes held (now (frames .entry))) r (now (frames .exit)) ⌝ }
 {
-    let mut frame = [0u8; 15240];
-    let got = program_stream::gather(STDIN_FILENO, &mut frame);
-    let Got::Whole = got else {
+    let got = program_stream::supply(STDIN_FILENO, frames, held, 15240);
+    let Supplied::Enough(more) = got else {
         show_end(got);
         return Next::End;
     };
-    take_frame(wanted, frame_number, demapper, &frame)
+    take_held(wanted, taken, demapper, more, frames, out)
 }
 
 // Says what is left where the input ends, or why it could not be read.
-fn show_end(got: Got) {
-    let Got::Rest(left) = got else {
+fn show_end(got: Supplied) {
+    let Supplied::Rest(left) = got else {
         os::fail(b"odu0demap: standard input");
         return;
     };
     program_stream::say_left(b"odu0demap: ", left);
 }
 
-// Takes a frame, writes its client bytes and says how its standing and the accepted type changed.
-// Where the bytes cannot be written nothing is said of the frame, and no more is handed out.
-fn take_frame(wanted: Wanted, frame_number: u64, demapper: Demapper, frame: &[u8]) -> Next
-    requires { ⌜ length (now frame) ≡ 15240 ⌝ }
-    ensures { λ r. ⌜ Goes wanted demapper (now (frame .entry)) r ⌝ }
+// Takes a run of the frames that are held, writes its client bytes and says what is to be told of
+// it. Where the bytes cannot be written nothing is said of the run, and no more is handed out.
+fn take_held(
+    wanted: Wanted,
+    taken: u64,
+    demapper: Demapper,
+    held: Held,
+    frames: &[u8],
+    out: &mut [u8],
+) -> Next
+    requires { ⌜ (taken < 18446744073709551599) × Has 15240 held (now frames) × (length (now frames) ≡ 243840) × (length (now out) ≡ 230560) ⌝ }
+    ensures { λ r. ⌜ Goes wanted demapper (heldBytes held (now (frames .entry))) r (now (frames .entry)) ⌝ }
 {
-    let mut out = [0u8; 14410];
-    let taken = demap_frame(wanted, demapper, frame, &mut out);
-    let standing = taken.standing;
-    let after = taken.after;
-    let bytes = &out[..taken.handed as usize];
-    if program_stream::write_out(bytes, b"odu0demap: standard output") {
-        show_change(frame_number, demapper, standing, taken.mended);
-        show_type(frame_number, accepted_type(demapper), accepted_type(after));
-        return Next::From(after);
+    let at = held.at;
+    let end = held.end;
+    let whole = &frames[at..end];
+    let run = demap_run(wanted, demapper, whole, out);
+    let number = run.frames;
+    let handed = run.handed;
+    let after = run.after;
+    let is_written = hand_out(wanted, demapper, whole, number, &out[..handed]);
+    if is_written {
+        show_told(is_written, taken + number as u64, run);
+        return Next::From(
+            after,
+            number,
+            Held {
+                at: at + 15240 * number,
+                end: end,
+            },
+        );
     }
     Next::End
+}
+
+// Writes the client bytes of so many frames, all of them and in order, or says why that failed.
+fn hand_out(wanted: Wanted, demapper: Demapper, frames: &[u8], number: usize, bytes: &[u8]) -> bool
+    requires { ⌜ now bytes ≡ handedOver wanted demapper (framesIn number (now frames)) ⌝ }
+{
+    program_stream::write_out(bytes, b"odu0demap: standard output")
+}
+
+// Takes frame after frame, at most 16 and none behind one of which something is to be told.
+fn demap_run(wanted: Wanted, first: Demapper, frames: &[u8], out: &mut [u8]) -> Run
+    requires { ⌜ length (now out) ≡ 230560 ⌝ }
+    ensures { λ r. ⌜ Runs wanted first (now (frames .entry)) r (now (out .exit)) ⌝ }
+{
+    let mut demapper = first;
+    let mut number = 0;
+    let mut handed = 0;
+    while number < 16 {
+        let at = 15240 * number;
+        if frames.len() - at < 15240 {
+            return Run {
+                frames: number,
+                handed: handed,
+                before: demapper,
+                after: demapper,
+                told: Told::Nothing,
+            };
+        }
+        let end = at + 15240;
+        let room = handed + 14410;
+        let taken = demap_frame(wanted, demapper, &frames[at..end], &mut out[handed..room]);
+        let standing = taken.standing;
+        let after = taken.after;
+        number += 1;
+        handed += taken.handed as usize;
+        if is_quiet(demapper, taken) {
+            demapper = after;
+        } else {
+            return Run {
+                frames: number,
+                handed: handed,
+                before: demapper,
+                after: after,
+                told: Told::Last(standing, taken.mended),
+            };
+        }
+    }
+    Run {
+        frames: number,
+        handed: handed,
+        before: demapper,
+        after: demapper,
+        told: Told::Nothing,
+    }
 }
 
 // Hands a frame to the sink and tallies it, on port 1 of a card whose other ports are idle. With
@@ -270,17 +383,110 @@ fn demap_frame(wanted: Wanted, demapper: Demapper, frame: &[u8], out: &mut [u8])
     }
 }
 
+// Whether nothing is to be told of a frame: neither its standing, nor a change of the accepted
+// type.
+fn is_quiet(before: Demapper, taken: Taken) -> bool
+    ensures { λ r. ⌜ r ≡ isQuiet before (standingMeaning (taken .standing)) (taken .mended) (taken .after) ⌝ }
+{
+    let standing = taken.standing;
+    let after = taken.after;
+    if is_silent(before, standing, taken.mended) {
+        return is_same_type(accepted_type(before), accepted_type(after));
+    }
+    false
+}
+
+// Says how the last frame of a run changed the standing and the accepted type, where that is to be
+// told: only once the bytes of the run are written.
+fn show_told(is_written: bool, frame_number: u64, run: Run)
+    requires { ⌜ «is_written» ≡ true ⌝ }
+{
+    let told = run.told;
+    let Told::Last(standing, mended) = told else {
+        return;
+    };
+    let before = run.before;
+    let after = run.after;
+    show_change(frame_number, before, standing, mended);
+    show_type(frame_number, accepted_type(before), accepted_type(after));
+}
+
 // Says the standing of a frame, its count or "-", and that it was mended, where there is anything
-// new to say.
+// new to say: by one write, since at the usual rate nearly every frame has such a line. The longest
+// has 6, 20, 2, 8, 1, 10 and 8 bytes for its seven parts, 55 in all.
 fn show_change(frame_number: u64, before: Demapper, standing: Standing, mended: bool) {
     if is_silent(before, standing, mended) {
         return;
     }
-    program_stream::say(b"frame ", frame_number);
-    io::write_all(STDERR_FILENO, b": ");
-    show_name(standing);
-    show_count(gmp_standing::found_count(standing));
-    show_mended(mended);
+    let mut line = [0u8; 64];
+    let length = put_change(&mut line, frame_number, standing, mended);
+    io::write_all(STDERR_FILENO, &line[..length]);
+}
+
+// Makes that line, and gives its length.
+fn put_change(line: &mut [u8], frame_number: u64, standing: Standing, was_mended: bool) -> usize
+    ensures { λ r. ⌜ Counts r (now (line .exit)) ⌝ }
+{
+    let a = put(line, 0, b"frame ");
+    let b = put_number(line, a, frame_number);
+    let c = put(line, b, b": ");
+    let d = put_name(line, c, standing);
+    let e = put_count(line, d, gmp_standing::found_count(standing));
+    if was_mended {
+        return put(line, e, b" mended\n");
+    }
+    put(line, e, b"\n")
+}
+
+// Puts the name of a standing behind the first `at` bytes of a line, and gives the length then.
+fn put_name(line: &mut [u8], at: usize, standing: Standing) -> usize
+    ensures { λ r. ⌜ Counts r (now (line .exit)) ⌝ }
+{
+    let place = gmp_standing::standing_number(standing) as usize - 1;
+    let names: &[u8] = &NAMES;
+    let start = 8 * place;
+    let end = start + NAME_LENGTHS[place];
+    put(line, at, &names[start..end])
+}
+
+// Puts a space and the count found there, or "-" where there is none.
+fn put_count(line: &mut [u8], at: usize, count: Count) -> usize
+    ensures { λ r. ⌜ Counts r (now (line .exit)) ⌝ }
+{
+    let Count::Known(n) = count else {
+        return put(line, at, b" -");
+    };
+    let a = put(line, at, b" ");
+    put_number(line, a, n as u64)
+}
+
+// Puts a number there in decimal.
+fn put_number(line: &mut [u8], at: usize, n: u64) -> usize
+    ensures { λ r. ⌜ Counts r (now (line .exit)) ⌝ }
+{
+    let mut digits = [0u8; 20];
+    let k = io::decimal(n, &mut digits);
+    put(line, at, &digits[..k])
+}
+
+// Puts these bytes there, as many as have room.
+fn put(line: &mut [u8], at: usize, text: &[u8]) -> usize
+    ensures { λ r. ⌜ Counts r (now (line .exit)) ⌝ }
+{
+    let mut end = at;
+    if line.len() < at {
+        end = line.len();
+    }
+    let mut i = 0;
+    while i < text.len() {
+        if line.len() <= end {
+            return end;
+        }
+        line[end] = text[i];
+        end += 1;
+        i += 1;
+    }
+    end
 }
 
 // Says the accepted type where there is one, and it is another than before the frame.
@@ -293,24 +499,6 @@ fn show_type(frame_number: u64, before: AcceptedType, after: AcceptedType) {
     };
     program_stream::say(b"frame ", frame_number);
     program_stream::say_line(b": accepted type ", accepted as u64);
-}
-
-// Writes the count found behind the name, or "-" where there is none.
-fn show_count(count: Count) {
-    let Count::Known(n) = count else {
-        io::write_all(STDERR_FILENO, b" -");
-        return;
-    };
-    program_stream::say(b" ", n as u64);
-}
-
-// Ends the line, with "mended" where a bit was.
-fn show_mended(was_mended: bool) {
-    if was_mended {
-        io::write_all(STDERR_FILENO, b" mended\n");
-        return;
-    }
-    io::write_all(STDERR_FILENO, b"\n");
 }
 
 // Whether nothing is said of a frame: nothing was mended, and its standing is that of the frame
@@ -376,15 +564,6 @@ fn accepted_type(demapper: Demapper) -> AcceptedType
     let state = demapper.state;
     let types = state.types;
     types.accepted
-}
-
-// Writes the name of a standing to standard error.
-fn show_name(standing: Standing) {
-    let place = gmp_standing::standing_number(standing) as usize - 1;
-    let names: &[u8] = &NAMES;
-    let start = 8 * place;
-    let end = start + NAME_LENGTHS[place];
-    io::write_all(STDERR_FILENO, &names[start..end]);
 }
 
 // Says the tally: frames taken, BADCHECK frames and bytes handed out.

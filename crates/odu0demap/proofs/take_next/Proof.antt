@@ -1,48 +1,58 @@
 -- `odu0demap::take_next` meets its contract. Assumes nothing.
-use mathlib.Core.Path.{_≡_}
-use lib.ListN.{length}
-use borrow.Author.Needs.{needs}
+use mathlib.Core.Path.{subst, _∙_}
+use Rattle.program_stream.specs.declared.Supplied.{Supplied}
+use Rattle.program_stream.specs.Gather.{heldBytes, Supplies}
 use Rattle.odu0demap.proofs.Going.{goes-on}
+use borrow.Author.Needs.{needs}
 use Rattle.odu0demap.proofs.take_next.Statement.{statement}
 use Rattle.odu0demap.proofs.take_next.Tie as tie
 
-slice-aggregate-gather : tie.Need-slice-aggregate-gather
-slice-aggregate-gather c = search needs
+supply-requires : tie.Need-supply-requires
+supply-requires c κs = search needs
 
-gather-requires : tie.Need-gather-requires
-gather-requires c κs = search needs
-
-enum-told : tie.Need-enum-told
-enum-told c = search needs
+enum-known-got : tie.Need-enum-known-got
+enum-known-got c = search needs
 
 show-end-requires : tie.Need-show-end-requires
 show-end-requires c κs = search needs
 
+same-length : tie.Need-same-length
+same-length c = search needs
+
 returns : tie.Need-returns
 returns c = search needs
 
-slice-aggregate-take-frame : tie.Need-slice-aggregate-take-frame
-slice-aggregate-take-frame c = search needs
+take-held-requires : tie.Need-take-held-requires
+take-held-requires c κs =
+    let g = c .before .before .before .before .before .before .before .before .before .before .before .args in
+    let w = c .before .before .before .before .before .before .before .supply in
+    let holds = subst (λ (r : Supplied). Supplies (g .frames .now) (g .held) 15240 r (w .last .1 .0)) (c .before .before .before .got .given .1) (w .ensures) in
+    (c .before .before .before .before .before .before .before .before .before .before .before .pre .0, holds .has, w .kept .1 .0 ∙ c .before .before .before .before .before .before .before .before .before .before .before .pre .1, c .before .before .before .before .before .before .before .before .before .before .before .pre .2)
 
-take-frame-requires : tie.Need-take-frame-requires
-take-frame-requires c κs = search needs
+same-length-2 : tie.Need-same-length-2
+same-length-2 c = search needs
+
+same-length-3 : tie.Need-same-length-3
+same-length-3 c = search needs
 
 returns-2 : tie.Need-returns-2
 returns-2 c =
-    let frame = c .before .before .before .before .before .gather .last .1 .0 in
-    let whole : length frame ≡ 15240 = search needs in
-    let g = c .before .before .before .before .before .before .before .args in
-    goes-on (g .wanted) (g .demapper) frame (c .take-frame .result) whole (c .take-frame .ensures)
+    let g = c .before .before .before .before .before .before .before .before .before .before .before .before .before .before .args in
+    let w = c .before .before .before .before .before .before .before .before .before .before .supply in
+    let k = c .before .before .take-held in
+    let holds = subst (λ (r : Supplied). Supplies (g .frames .now) (g .held) 15240 r (w .last .1 .0)) (c .before .before .before .before .before .before .got .given .1) (w .ensures) in
+    goes-on (g .wanted) (g .demapper) (heldBytes (g .held) (g .frames .now)) (heldBytes (c .before .before .before .before .before .before .got .given .0 .0) (w .last .1 .0)) (w .last .1 .0) (k .result) (holds .first) (k .ensures)
 
 pub take-next-spec : {M : Type 1} → statement M
 take-next-spec =
     tie.close
     (tie.spec
-    slice-aggregate-gather
-    gather-requires
-    enum-told
+    supply-requires
+    enum-known-got
     show-end-requires
+    same-length
     returns
-    slice-aggregate-take-frame
-    take-frame-requires
+    take-held-requires
+    same-length-2
+    same-length-3
     returns-2)
