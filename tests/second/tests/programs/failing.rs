@@ -60,7 +60,8 @@ impl Case {
 }
 
 /// The three programs. All loads have the same length, so that odu0demap says the standing of the
-/// first frame only. For that one it has no count; its first write is the load of the second.
+/// first frame only. For that one it has no count; the first load that it hands out is that of the
+/// second.
 fn cases() -> [Case; 3] {
     let client = Random::new(21).bytes(5 * 14407);
     let frames = mapped(&client, (14407, 1)).out;
@@ -194,19 +195,37 @@ fn a_full_device_for_nothing() {
     }
 }
 
-/// A file that may have 40 blocks of 512 bytes: a filter fills it within its second write, sinkshow
-/// within one of many.
+/// Runs a program that writes to a file which may have 40 blocks of 512 bytes, and asserts that it
+/// fills it and says this.
+fn assert_fills_a_file(case: &Case, said: &str, fed: impl FnOnce(&File) -> Input) {
+    let mut file = new_file(case.name);
+    let limited = case.program_after("trap '' XFSZ; ulimit -f 40");
+    let output = file.try_clone().unwrap().into();
+    let (status, written) = run_onto(output, limited, fed(&file));
+    let mut out = Vec::new();
+    file.rewind().and_then(|()| file.read_to_end(&mut out)).unwrap();
+    assert_ended((status, Written { out, ..written }), &case.out[..40 * 512], said);
+}
+
+/// All frames come at once: a filter fills the file within its first write, of more frames than
+/// one, and tells the totals before it. sinkshow fills it within one of many.
 #[test]
 fn a_file_that_is_full_within_a_write() {
     for case in cases() {
-        let mut file = new_file(case.name);
-        let limited = case.program_after("trap '' XFSZ; ulimit -f 40");
+        let said = [case.lines, &case.failed("output", EFBIG), case.totals[1]].concat();
+        assert_fills_a_file(&case, &said, |_| Input::StaysOpen(case.input.clone()));
+    }
+}
+
+/// The frames behind the first write come once that is done: it counts.
+#[test]
+fn a_file_that_is_full_within_the_second_write() {
+    for case in cases() {
         let said = [case.lines, &case.failed("output", EFBIG), case.totals[2]].concat();
-        let output = file.try_clone().unwrap().into();
-        let (status, written) = run_onto(output, limited, Input::StaysOpen(case.input));
-        let mut out = Vec::new();
-        file.rewind().and_then(|()| file.read_to_end(&mut out)).unwrap();
-        assert_ended((status, Written { out, ..written }), &case.out[..40 * 512], &said);
+        assert_fills_a_file(&case, &said, |file| {
+            let file = file.try_clone().unwrap();
+            Input::OnceWritten(case.halves(), file, case.first.1 as u64)
+        });
     }
 }
 
@@ -247,6 +266,38 @@ fn an_output_closed_after_the_first_write() {
         let said = [case.lines, &case.failed("output", EPIPE), case.totals[2]].concat();
         let ended = run_until_closed(case.first.1, ignoring, case.halves());
         assert_ended(ended, &case.out[..case.first.1], &said);
+    }
+}
+
+/// Many frames, of which some come out before the output is closed: the totals are those of the
+/// writes that were done.
+#[test]
+fn an_output_closed_within_many_frames() {
+    let client = Random::new(26).bytes(60 * 14407);
+    let frames = mapped(&client, (14407, 1)).out;
+    let [map, demap, _] = cases();
+    let done = "odu0map: frames 60, bytes 864420\n";
+    for (case, input, out, done) in [
+        (map, client.clone(), frames.clone(), done),
+        (
+            demap,
+            frames,
+            client[14407..].to_vec(),
+            "odu0demap: frames 60, BADCHECK 0, bytes 850013\n",
+        ),
+    ] {
+        let read = 20 * 14407 + 5;
+        let ignoring = case.program_after("trap '' PIPE");
+        let (status, written) = run_until_closed(read, ignoring, [input, vec![]]);
+        let failed = [case.lines, &case.failed("output", EPIPE)].concat();
+        assert_eq!(status.signal(), None);
+        assert!(written.out == out[..read], "{}: {}", case.name, written.said);
+        assert!(
+            written.said.starts_with(&failed) && !written.said.contains(done),
+            "{}",
+            written.said
+        );
+        assert_eq!(written.said.lines().count(), failed.lines().count() + 1, "{}", written.said);
     }
 }
 

@@ -1,6 +1,7 @@
 //! Runs a program on pieces of input, and takes what it writes.
 
 use second::Random;
+use std::fs::File;
 use std::io::{ErrorKind, Read, Write};
 use std::process::{Child, Command, ExitStatus, Stdio};
 use std::sync::{mpsc, RwLock};
@@ -115,6 +116,28 @@ pub fn run(
     written
 }
 
+/// Runs a program of target/bin that is fed a piece of its input only once it has written so many
+/// bytes for each piece before. Its input then ends. It hangs if it holds anything back.
+pub fn run_in_turns(name: &str, arguments: &[&str], turns: Vec<(Vec<u8>, usize)>) -> Written {
+    let _shared = RUNNING.read();
+    let mut program = start(program(name, arguments), Stdio::piped(), Stdio::piped());
+    let mut input = program.stdin.take().unwrap();
+    let mut output = program.stdout.take().unwrap();
+    let turner = thread::spawn(move || {
+        let mut out = Vec::new();
+        for (piece, length) in turns {
+            feed(&mut input, &piece);
+            output.by_ref().take(length as u64).read_to_end(&mut out).unwrap();
+        }
+        drop(input);
+        output.read_to_end(&mut out).unwrap();
+        out
+    });
+    let (status, written) = end(program);
+    assert!(status.success(), "{status}");
+    Written { out: turner.join().unwrap(), ..written }
+}
+
 /// Runs a program that reads this input.
 pub fn run_on(input: Stdio, command: Command) -> (ExitStatus, Written) {
     let _shared = RUNNING.read();
@@ -122,10 +145,11 @@ pub fn run_on(input: Stdio, command: Command) -> (ExitStatus, Written) {
 }
 
 /// What a program is fed: its input then ends, or it stays open, so that the program ends only of
-/// its own will.
+/// its own will; or the second half comes once a file has so many bytes, and it stays open.
 pub enum Input {
     Ends(Vec<u8>),
     StaysOpen(Vec<u8>),
+    OnceWritten([Vec<u8>; 2], File, u64),
 }
 
 /// Runs a program that writes to this output.
@@ -140,6 +164,15 @@ pub fn run_onto(output: Stdio, command: Command, fed: Input) -> (ExitStatus, Wri
         }
         Input::StaysOpen(fed) => {
             feed(&mut input, &fed);
+            Some(input)
+        }
+        Input::OnceWritten([before, behind], file, length) => {
+            feed(&mut input, &before);
+            let begin = Instant::now();
+            while file.metadata().unwrap().len() < length && begin.elapsed() < LIMIT {
+                thread::sleep(Duration::from_millis(1));
+            }
+            feed(&mut input, &behind);
             Some(input)
         }
     });

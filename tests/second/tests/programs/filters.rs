@@ -1,8 +1,9 @@
 //! The filters odu0map and odu0demap against the second implementation's source, rate keeper and
 //! sink at OPU0's size.
 
-use crate::feed::{pieces, run, Written};
+use crate::feed::{pieces, program, run, run_in_turns, run_on, Written};
 use second::{Card, Expected, Keeper, Random, Settings, Sink, Source, Taken};
+use std::fs::{self, File};
 use std::time::Duration;
 
 const OPU0: Settings = Settings::OPU0;
@@ -400,6 +401,92 @@ fn slow_pieces() {
     let fed = pieces(&mut random, &frames.out, 2000);
     let back = run("odu0demap", &[], fed, Some(Duration::from_millis(1)));
     assert!(back == demapped(&frames.out, &[]), "{}", back.said);
+}
+
+/// Pieces of this length, the last of the rest.
+fn pieces_of(length: usize, input: &[u8]) -> Vec<Vec<u8>> {
+    input.chunks(length).map(<[u8]>::to_vec).collect()
+}
+
+/// Frames and loads that come in odd pieces: what is written is as if they came at once.
+#[test]
+fn odd_pieces() {
+    let mut random = Random::new(27);
+    let (client, at) = (random.bytes(14407 * 40 + 9), (18_671_875, 1296));
+    let frames = [&harmed(&mut random, &mapped(&client, at).out)[..], &random.bytes(77)].concat();
+    let lengths = [14_406, 14_408, 15_239, 15_241, 53_340, 15_240 * 16 + 1, 1_000_000];
+    for (length, pause) in lengths
+        .into_iter()
+        .flat_map(|length| [(length, None), (length, Some(Duration::from_millis(2)))])
+    {
+        let written = run("odu0map", &[], pieces_of(length, &client), pause);
+        assert!(written == mapped(&client, at), "pieces of {length}: {}", written.said);
+        let written = run("odu0demap", &["mend"], pieces_of(length, &frames), pause);
+        assert!(written == demapped(&frames, &["mend"]), "pieces of {length}:\n{}", written.said);
+    }
+}
+
+#[test]
+fn byte_by_byte() {
+    let client = Random::new(28).bytes(2 * 14407 + 11);
+    let frames = run("odu0map", &["14407", "1"], pieces_of(1, &client), None);
+    assert!(frames == mapped(&client, (14407, 1)), "{}", frames.said);
+    let back = run("odu0demap", &[], pieces_of(1, &frames.out), None);
+    assert!(back == demapped(&frames.out, &[]), "{}", back.said);
+}
+
+/// A file gives a read all the bytes that it has room for, so that 16 loads and the start of one
+/// more, or 16 frames, are read at a time. A pipe gives 65,536 bytes at most.
+#[test]
+fn many_frames_from_a_file() {
+    let mut random = Random::new(29);
+    for loads in [15, 16, 17, 32, 33, 48, 49, 100] {
+        let at = rate(&mut random);
+        let client = random.bytes(loads * 14410 + 3);
+        let of = [at.0.to_string(), at.1.to_string()];
+        let from_file = |name: &str, arguments: &[&str], input: &[u8]| {
+            let path = format!("{}/{name}_{loads}", env!("CARGO_TARGET_TMPDIR"));
+            fs::write(&path, input).unwrap();
+            let file = File::open(&path).unwrap();
+            fs::remove_file(&path).unwrap();
+            run_on(file.into(), program(name, arguments)).1
+        };
+        let written = from_file("odu0map", &[&of[0], &of[1]], &client);
+        assert!(written == mapped(&client, at), "{loads} loads at {at:?}: {}", written.said);
+        for input in [single_errors(&mut random, &written.out), harmed(&mut random, &written.out)] {
+            for arguments in [&[][..], &["mend"], &["mend", "type", "7"]] {
+                let written = from_file("odu0demap", arguments, &input);
+                let wanted = demapped(&input, arguments);
+                assert!(written == wanted, "{loads} loads, {arguments:?}:\n{}", written.said);
+            }
+        }
+    }
+}
+
+/// On a live pipe nothing is held back: each frame comes out before the next load goes in, also
+/// where the start of the next one came with it, and each load before the next frame.
+#[test]
+fn nothing_is_held_back() {
+    let client = Random::new(30).bytes(14407 * 20 + 300);
+    let frames = mapped(&client, (14407, 1));
+    for (more, turns) in [(0, 20), (300, 20)] {
+        let cut = |input: &[u8], length: usize, written: &dyn Fn(usize) -> usize| {
+            let end = |turn: usize| (turn * length + more).min(input.len());
+            (0..turns)
+                .map(|turn| {
+                    let from = if turn == 0 { 0 } else { end(turn) };
+                    (input[from..end(turn + 1)].to_vec(), written(turn))
+                })
+                .collect::<Vec<_>>()
+        };
+        let loads = cut(&client[..14407 * 20 + more], 14407, &|_| FRAME);
+        let written = run_in_turns("odu0map", &["14407", "1"], loads);
+        assert!(written == mapped(&client[..14407 * 20 + more], (14407, 1)), "{}", written.said);
+        // The first frame hands out nothing, for want of its count.
+        let turns = cut(&frames.out, FRAME, &|turn| if turn == 0 { 0 } else { 14407 });
+        let written = run_in_turns("odu0demap", &[], turns);
+        assert!(written == demapped(&frames.out, &[]), "{}", written.said);
+    }
 }
 
 /// A rest is told exactly where the input ends within a load. The second has a byte more.
