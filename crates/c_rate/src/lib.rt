@@ -21,7 +21,7 @@ pub struct KeeperReply {
 pub extern "C" fn odu0_keeper_new(q: u32) -> u32
     ensures { λ r. ⌜ r ≡ firstRemainder q ⌝ }
 {
-    gmp_rate::first_remainder(q)
+    gmp_rate_call::first_remainder(q)
 }
 
 #[no_mangle]
@@ -34,7 +34,7 @@ pub extern "C" fn odu0_keeper_call(
     ensures { λ r. ⌜ r ≡ keeperReply (keeperCall (settingsFrom settings) p q remainder) ⌝ }
 {
     let card = c_settings::settings_from(settings);
-    keeper_reply(gmp_rate::next_count(card, p, q, remainder))
+    keeper_reply(gmp_rate_call::next_count(card, p, q, remainder))
 }
 
 fn keeper_reply(result: KeeperResult) -> KeeperReply

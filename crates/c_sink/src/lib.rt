@@ -1,6 +1,8 @@
 // The sink for C and Rust: numbers and buffers in, numbers out. All meaning is in the crates below;
 // here values are only converted.
 use c_settings::SettingsNumbers;
+use c_sink_numbers::SinkNumbers;
+use c_sink_numbers::SinkReply;
 use card_tally::Tallies;
 use card_tally::Tally;
 use card_tally::Total;
@@ -19,36 +21,7 @@ ghost use Prim.Native.Nat.{_<_};
 ghost use Rattle.gmp_sink.specs.Sink.{newSink, answerMeaning};
 ghost use Rattle.card_tally.specs.Ports.{totalOf};
 ghost use Rattle.c_settings.specs.Numbers.{settingsFrom};
-ghost use Rattle.c_sink.specs.Numbers.{countFrom, countFlag, countValue, wordFrom, wordFlag, wordValue, acceptedFrom, acceptedFlag, acceptedType, seenFrom, seenTimes, seenType, stateFrom, stateNumbers, flagOf, sinkReplyBy, tallyAt, talliesFrom, talliesNumbers, SinkCallPromise};
-ghost use Rattle.c_sink.specs.Lossless.{Lossless};
-
-// A sink's state: a flag, 0 for none, beside the count, beside the remembered word and beside the
-// accepted payload type; and how often the type that was seen last was seen: 0, 1, or any other
-// number for twice or more.
-#[repr(C)]
-pub struct SinkNumbers {
-    pub known: u32,
-    pub count: u32,
-    pub remembered: u32,
-    pub word: u32,
-    pub accepted: u32,
-    pub seen: u32,
-    pub accepted_type: u8,
-    pub seen_type: u8,
-}
-
-// The refusal's number or 0, the standing's number or 0, what it found, the bytes handed out, a
-// flag, 1 where a wrong control bit was mended, and the sink's state.
-#[repr(C)]
-pub struct SinkReply {
-    pub refusal: u32,
-    pub standing: u32,
-    pub found: u32,
-    pub count: u32,
-    pub handed: u32,
-    pub mended: u32,
-    pub state: SinkNumbers,
-}
+ghost use Rattle.c_sink_numbers.specs.Numbers.{countFrom, countFlag, countValue, wordFrom, wordFlag, wordValue, acceptedFrom, acceptedFlag, acceptedType, seenFrom, seenTimes, seenType, stateFrom, stateNumbers, flagOf, sinkReplyBy, tallyAt, talliesFrom, talliesNumbers, SinkCallPromise};
 
 // A flag, 0 for none, beside the number.
 struct Flagged {
@@ -95,11 +68,6 @@ pub extern "C" fn odu0_card_total(tallies: &[u32; 24]) -> Total
 {
     card_tally::card_total(tallies_from(*tallies))
 }
-
-// What crosses can be read back.
-pub fn lossless()
-    ensures { λ _. ⌜ Lossless ⌝ }
-{}
 
 // A refused call returns the very numbers that it was given.
 fn sink_reply(given: SinkNumbers, result: SinkResult) -> SinkReply

@@ -13,8 +13,8 @@ use Rattle.gmp_rate.specs.declared.KeeperResult.{KeeperResult}
 use Rattle.gmp_rate.specs.Rate.{answerMeaning, resultMeaning, keeperCall, firstRemainder}
 use Rattle.gmp_rate.specs.Sum.{KeeperCall, given, countsFrom, sum, roundedTotal}
 use Rattle.gmp_rate.specs.Nearest.{Nearest}
-use Rattle.gmp_rate.proofs.first_remainder.Reads as first-reading
-use Rattle.gmp_rate.proofs.next_count.Reads as next-reading
+use Rattle.gmp_rate_call.proofs.first_remainder.Reads as first-reading
+use Rattle.gmp_rate_call.proofs.next_count.Reads as next-reading
 
 -- a call with the remainder r: it returned the result, and kept its promise
 pub record KeeperSeen : Type 0 where

@@ -13,7 +13,7 @@ use Rattle.gmp_control.specs.Word.{equalIndicators}
 use Rattle.gmp_control.specs.Pattern.{tableOf}
 use Rattle.gmp_control.specs.Announce.{announced}
 use Rattle.gmp_control.specs.Follow.{usable, tracked, candidate, paired, reading, foundBy}
-use Rattle.gmp_stuffing.specs.Places.{places, placed, tabulate, chosen}
+use Rattle.gmp_places.specs.Places.{places, placed, tabulate, chosen}
 use Rattle.gmp_frame.specs.Frame.{row, frame, columns, payload, clientBytes, controlOf}
 use Rattle.gmp_payload_type.specs.Types.{judged, typesAfter, gateOpen}
 use Rattle.gmp_source.specs.Source.{startRefusal, newSource, sourceRefusal, controlBytes, written, sourceState, sourceFrame}

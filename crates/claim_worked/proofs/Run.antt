@@ -23,14 +23,14 @@ use Rattle.gmp_control.specs.Word.{equalIndicators}
 use Rattle.gmp_control.specs.Pattern.{tableOf}
 use Rattle.gmp_control.specs.Announce.{announced}
 use Rattle.gmp_control.specs.Follow.{usable, tracked, candidate, paired, reading, foundBy}
-use Rattle.gmp_stuffing.specs.Places.{places, placed, tabulate, chosen}
+use Rattle.gmp_places.specs.Places.{places, placed, tabulate, chosen}
 use Rattle.gmp_frame.specs.Frame.{row, frame, columns, payload, clientBytes, controlOf}
 use Rattle.gmp_source.specs.declared.SourceState.{SourceState}
 use Rattle.gmp_payload_type.specs.Types.{judged, typesAfter, gateOpen}
 use Rattle.gmp_source.specs.Source.{startRefusal, newSource, sourceRefusal, controlBytes, written, sourceState, sourceFrame}
 use Rattle.card_tally.specs.Tally.{added}
 use Rattle.card_tally.specs.Ports.{counted, sumTo, totalOf}
-use Rattle.card_sink.specs.Card.{talliesAfter}
+use Rattle.card_count.specs.Card.{talliesAfter}
 use Rattle.gmp_sink.specs.Sink.{newSink, sinkRefusal, handed, standingAfter, stateAfter, sinkAnswer, sinkState, sinkHanded, sinkOut, released}
 use Rattle.claim_recovery.specs.Runs.{Nth, SourceCall, SinkCall, SourceStep, SinkStep, sourceSteps, sinkSteps, sinkEnd, countOf, answerOf}
 use Rattle.claim_recovery.specs.Tallied.{talliesEnd}

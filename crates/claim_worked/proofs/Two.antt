@@ -18,7 +18,7 @@ use Rattle.gmp_payload_type.specs.Types.{newTypes, judged, isAccepted, gateOpen
 use Rattle.gmp_payload_type.proofs.Laws.{open-on, running}
 use Rattle.gmp_control.specs.Pattern.{tableOf}
 use Rattle.gmp_control.specs.Announce.{announced}
-use Rattle.gmp_stuffing.specs.Places.{places, placed, tabulate}
+use Rattle.gmp_places.specs.Places.{places, placed, tabulate}
 use Rattle.gmp_frame.specs.Frame.{row, frame}
 use Rattle.gmp_source.specs.declared.SourceState.{SourceState}
 use Rattle.gmp_source.specs.Source.{startRefusal, newSource, sourceRefusal, controlBytes, written, sourceState, sourceFrame}

@@ -10,7 +10,7 @@ use Rattle.gmp_standing.specs.Known.{inWindow}
 use Rattle.gmp_control.specs.Word.{equalIndicators}
 use Rattle.gmp_control.specs.Pattern.{tableOf}
 use Rattle.gmp_control.specs.Follow.{usable, tracked, candidate, paired, reading, foundBy}
-use Rattle.gmp_stuffing.specs.Places.{places, chosen}
+use Rattle.gmp_places.specs.Places.{places, chosen}
 use Rattle.gmp_frame.specs.Frame.{columns, payload, clientBytes, controlOf}
 use Rattle.gmp_payload_type.specs.Types.{judged, typesAfter, gateOpen}
 use Rattle.gmp_sink.specs.Sink.{sinkRefusal, handed, released, standingAfter, stateAfter, sinkAnswer, sinkState, sinkHanded, sinkOut}

@@ -10,7 +10,7 @@ use Rattle.gmp_standing.specs.declared.Count.the-variants.{Known, Unknown}
 use Rattle.gmp_standing.specs.Standing.{Finding, finding, READ, TRACKED, PAIRED, BADCHECK, WAITING, OUTSIDE}
 use Rattle.gmp_control.specs.declared.Remembered.the-variants.{Nothing}
 use Rattle.gmp_control.specs.Worked.{wide, narrow}
-use Rattle.gmp_stuffing.specs.Places.{carries}
+use Rattle.gmp_places.specs.Places.{carries}
 use Rattle.gmp_frame.specs.declared.Control.{Control}
 use Rattle.gmp_payload_type.specs.Types.{newTypes}
 use Rattle.gmp_rate.specs.Rate.{firstRemainder}

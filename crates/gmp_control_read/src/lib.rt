@@ -70,7 +70,7 @@ fn judge_window(settings: Settings, standing: Standing) -> Standing
     let Count::Known(reached) = count else {
         return standing;
     };
-    if gmp_settings::is_outside(settings, reached) {
+    if gmp_settings_judge::is_outside(settings, reached) {
         return Standing::Outside;
     }
     standing

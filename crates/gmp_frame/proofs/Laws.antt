@@ -10,8 +10,8 @@ use borrow.Author.Tests.{eq-eqb, le-leb}
 use Rattle.gmp_settings.specs.Grid.{payloadBytes, frameBytes}
 use Rattle.gmp_frame.specs.declared.Control.{Control}
 use Rattle.gmp_frame.specs.Frame.{frame, columns, payload, clientBytes, controlOf, psiOf, OthersSame, frameWritten, clientTaken}
-use Rattle.gmp_stuffing.specs.Places.{chosen}
-use Rattle.gmp_stuffing.proofs.Steps.{count-all, length-first, chosen-placed}
+use Rattle.gmp_places.specs.Places.{chosen}
+use Rattle.gmp_places.proofs.Steps.{count-all, length-first, chosen-placed}
 use Rattle.gmp_frame.proofs.Rows.{length-row, length-payload, payload-frame, first, second, row0, row1, row2, row3}
 
 -- "4K + 8 bytes in all"

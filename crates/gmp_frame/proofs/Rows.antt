@@ -7,9 +7,9 @@ use native.Mathlib.Omega.{arith}
 use lib.ListN.{length, getD, take, drop, length-append, length-take, length-drop}
 use lib.Seq.{take-at, drop-append-add, getD-append-add}
 use Rattle.gmp_frame.specs.declared.Control.{Control}
-use Rattle.gmp_stuffing.specs.Places.{placed, tabulate}
+use Rattle.gmp_places.specs.Places.{placed, tabulate}
 use Rattle.gmp_frame.specs.Frame.{row, frame, columns, payload}
-use Rattle.gmp_stuffing.proofs.Steps.{length-tabulate, tabulate-append}
+use Rattle.gmp_places.proofs.Steps.{length-tabulate, tabulate-append}
 
 -- a row is two bytes longer than its payload
 pub length-row : (k : ℕ) (client : List ℕ) (r a b : ℕ) → length (row k client r a b) ≡ k + 2

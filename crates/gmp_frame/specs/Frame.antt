@@ -8,7 +8,7 @@ use lib.ListN.{length, getD, take, drop}
 use lib.Dec.{eqb, leb}
 use Rattle.gmp_settings.specs.Grid.{payloadBytes, frameBytes}
 use Rattle.gmp_frame.specs.declared.Control.{Control}
-use Rattle.gmp_stuffing.specs.Places.{placed, tabulate, chosen}
+use Rattle.gmp_places.specs.Places.{placed, tabulate, chosen}
 
 -- row r with its first two bytes a and b, and then its K payload bytes
 unfoldable pub row : ℕ → List ℕ → ℕ → ℕ → ℕ → List ℕ

@@ -6,9 +6,9 @@ use native.Mathlib.Nat.{zero-div, zero-mul}
 use native.Mathlib.Omega.{arith}
 use lib.ListN.{length, take, drop, length-append}
 use lib.Seq.{take-at}
-use Rattle.gmp_stuffing.specs.Places.{chosen}
+use Rattle.gmp_places.specs.Places.{chosen}
 use Rattle.gmp_stuffing.proofs.Copies.{drop-past}
-use Rattle.gmp_stuffing.proofs.Steps.{count-all, length-first, length-chosen, chosen-append}
+use Rattle.gmp_places.proofs.Steps.{count-all, length-first, length-chosen, chosen-append}
 use Rattle.gmp_frame.specs.Frame.{columns, payload, clientBytes}
 use Rattle.gmp_frame.proofs.Rows.{length-columns}
 

@@ -1,26 +1,17 @@
 // The sink's call: it hands out the client bytes of a frame at the places of the count that it knew
 // before, where the payload type lets them pass, and follows the control word and the type.
-use gmp_control::Followed;
-use gmp_control::Remembered;
-use gmp_crc8::ReadWord;
-use gmp_crc8::Reading;
-use gmp_frame::Control;
 use gmp_payload_type::Expected;
-use gmp_refusal::Refusal;
 use gmp_refusal::Verdict;
 use gmp_settings::Settings;
-use gmp_sink::Heard;
 use gmp_sink::SinkAnswer;
 use gmp_sink::SinkResult;
 use gmp_sink::SinkState;
 use gmp_standing::Count;
-use gmp_standing::Standing;
 ghost use mathlib.Core.Path.{_≡_};
 ghost use mathlib.Core.Bool.{cond};
 ghost use mathlib.Core.List.{[]};
 ghost use lib.ListN.{length};
-ghost use Rattle.gmp_refusal.specs.Refusal.{verdictNumber};
-ghost use Rattle.gmp_sink.specs.Sink.{sinkRefusal, handed, Accepted, AcceptedPromise, HandsOut, HearsWord, ReadsControl, SinkPromise};
+ghost use Rattle.gmp_sink.specs.Sink.{handed, Accepted, AcceptedPromise, HandsOut, SinkPromise};
 
 // Takes a frame of this port, told its multiframe number and the payload type that is expected. A
 // refused call returns the state that it was given and leaves the output buffer as it was.
@@ -34,7 +25,7 @@ pub fn take_frame(
 ) -> SinkResult
     ensures { λ r. ⌜ SinkPromise settings state expected (now (frame .entry)) (now (out .entry)) port r (now (out .exit)) ⌝ }
 {
-    let verdict = judge_call(settings, frame.len(), out.len(), port);
+    let verdict = gmp_sink_judge::judge_call(settings, frame.len(), out.len(), port);
     let Verdict::Refused(refusal) = verdict else {
         return take_accepted(settings, state, expected, frame, out);
     };
@@ -59,7 +50,7 @@ fn take_accepted(
     ensures { λ r. ⌜ AcceptedPromise settings state expected (now (frame .entry)) (now (out .entry)) r (now (out .exit)) ⌝ }
 {
     let control = gmp_frame::control_of(frame, settings.k);
-    let heard = read_control(settings, state, control);
+    let heard = gmp_sink_control::read_control(settings, state, control);
     let followed = heard.followed;
     let standing = followed.standing;
     let count = followed.count;
@@ -106,50 +97,4 @@ fn hand_out(settings: Settings, state: SinkState, frame: &[u8], out: &mut [u8]) 
     };
     gmp_frame_read::take_client(frame, settings.k, n, out);
     n
-}
-
-// Rules 1 to 3: what the control bytes lead to, and whether a bit of them was mended.
-fn read_control(settings: Settings, state: SinkState, control: Control) -> Heard
-    ensures { λ r. ⌜ ReadsControl settings state control r ⌝ }
-{
-    let reading = gmp_crc8::read(settings.mending, control.jc1, control.jc2, control.jc3);
-    match reading {
-        Reading::Whole(word) => hear_word(settings, state, word, false),
-        Reading::Mended(word) => hear_word(settings, state, word, true),
-        Reading::Bad => Heard {
-            followed: Followed {
-                standing: Standing::BadCheck,
-                count: Count::Unknown,
-                word: Remembered::Nothing,
-            },
-            mended: false,
-        },
-    }
-}
-
-// Rules 2 and 3: what a word that was read leads to from this state, and whether it was mended.
-fn hear_word(settings: Settings, state: SinkState, word: ReadWord, mended: bool) -> Heard
-    ensures { λ r. ⌜ HearsWord settings state word mended r ⌝ }
-{
-    let count = state.count;
-    let earlier = state.word;
-    Heard {
-        followed: gmp_control_read::follow(settings, count, earlier, word.jc1, word.jc2),
-        mended: mended,
-    }
-}
-
-// Numbers 1, 2, 8, 9, 10 and 14, for a frame and an output buffer of these lengths and this port.
-fn judge_call(settings: Settings, frame_length: usize, space: usize, port: u32) -> Verdict
-    ensures { λ v. ⌜ verdictNumber v ≡ sinkRefusal settings «frame_length» space port ⌝ }
-{
-    let fit = gmp_settings::judge(settings);
-    let length = gmp_settings::frame_length(settings);
-    let too_short = space < settings.hi as usize;
-    let bad_port = gmp_port::is_bad_port(port);
-    let bad_patterns = gmp_settings::is_bad_patterns(settings);
-    let frame = gmp_refusal::refuse_if(fit, frame_length != length, Refusal::Frame);
-    let out = gmp_refusal::refuse_if(frame, too_short, Refusal::Space);
-    let named = gmp_refusal::refuse_if(out, bad_port, Refusal::Port);
-    gmp_refusal::refuse_if(named, bad_patterns, Refusal::Patterns)
 }

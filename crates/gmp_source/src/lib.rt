@@ -48,7 +48,7 @@ fn judge_start(settings: Settings, first: u32) -> Verdict
     ensures { λ v. ⌜ verdictNumber v ≡ startRefusal settings first ⌝ }
 {
     let state = judge_state(settings, first);
-    let bad_patterns = gmp_settings::is_bad_patterns(settings);
+    let bad_patterns = gmp_settings_judge::is_bad_patterns(settings);
     gmp_refusal::refuse_if(state, bad_patterns, Refusal::Patterns)
 }
 
@@ -56,7 +56,7 @@ fn judge_start(settings: Settings, first: u32) -> Verdict
 pub fn judge_state(settings: Settings, count: u32) -> Verdict
     ensures { λ v. ⌜ verdictNumber v ≡ lowest (stateReasons settings count) ⌝ }
 {
-    let fit = gmp_settings::judge(settings);
-    let is_outside = gmp_settings::is_outside(settings, count);
+    let fit = gmp_settings_judge::judge(settings);
+    let is_outside = gmp_settings_judge::is_outside(settings, count);
     gmp_refusal::refuse_if(fit, is_outside, Refusal::State)
 }

@@ -53,12 +53,12 @@ fn judge_call(
 {
     let present = state.count;
     let state = gmp_source::judge_state(settings, present);
-    let is_outside = gmp_settings::is_outside(settings, next);
+    let is_outside = gmp_settings_judge::is_outside(settings, next);
     let count = gmp_refusal::refuse_if(state, is_outside, Refusal::Count);
     let client = gmp_refusal::refuse_if(count, client_length != present as usize, Refusal::Client);
-    let length = gmp_settings::frame_length(settings);
+    let length = gmp_settings_judge::frame_length(settings);
     let frame = gmp_refusal::refuse_if(client, frame_length != length, Refusal::Frame);
-    let bad_patterns = gmp_settings::is_bad_patterns(settings);
+    let bad_patterns = gmp_settings_judge::is_bad_patterns(settings);
     gmp_refusal::refuse_if(frame, bad_patterns, Refusal::Patterns)
 }
 
@@ -67,7 +67,7 @@ fn control_bytes(settings: Settings, old: u32, next: u32) -> Control
     ensures { λ r. ⌜ r ≡ controlBytes settings old next ⌝ }
 {
     let word = gmp_control_write::announce(settings, old, next);
-    let jc3 = gmp_crc8::remainder(word.jc1, word.jc2);
+    let jc3 = gmp_crc8_read::remainder(word.jc1, word.jc2);
     Control {
         jc1: word.jc1,
         jc2: word.jc2,

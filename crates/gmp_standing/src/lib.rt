@@ -32,7 +32,7 @@ pub fn known_count(settings: Settings, count: Count) -> Count
     let Count::Known(n) = count else {
         return Count::Unknown;
     };
-    if gmp_settings::is_outside(settings, n) {
+    if gmp_settings_judge::is_outside(settings, n) {
         return Count::Unknown;
     }
     Count::Known(n)

@@ -1,35 +1,14 @@
--- What other crates cite: the stuffing places, and what is left in a row's buffer where all fits.
--- Assumes nothing.
-use mathlib.Core.Path.{_≡_, sym, _∙_}
-use mathlib.Core.Bool.{true, true≢false, _&&_}
+-- What other crates cite: what is left in a row's buffer where all fits. Assumes nothing.
+use mathlib.Core.Path.{_≡_}
+use mathlib.Core.Bool.{true, _&&_}
 use mathlib.Core.List.{List}
-use mathlib.Core.Logic.{_↔_, ⊎-elim}
-use Prim.Native.Nat.{ℕ, _+_, _*_, _/_, _≤_, _<_}
-use native.Mathlib.Omega.{arith}
+use Prim.Native.Nat.{ℕ, _*_, _≤_, _<_}
 use lib.ListN.{length}
 use lib.Dec.{ltb, leb}
 use borrow.Author.Tests.{ltb-true, leb-true, lt-ltb, le-leb}
 use Rattle.math.specs.Choice.{both-true}
 use Rattle.gmp_settings.specs.Grid.{payloadBytes}
-use Rattle.gmp_stuffing.specs.Places.{carries, places}
 use Rattle.gmp_stuffing.specs.Row.{rowFits, rowBytes, rowClient, rowPlaced, rowTaken}
-use Rattle.gmp_stuffing.proofs.Steps.{step, count-all, places-whole}
-
--- "among the first n exactly the whole part of n × C / S"
-pub places-are : (C S : ℕ) → C ≤ S → (n : ℕ) → places C S n ≡ n * C / S
-places-are = places-whole
-
--- "exactly C such places"
-pub places-all : (C S : ℕ) → C ≤ S → places C S S ≡ C
-places-all C S le = places-are C S le S ∙ count-all C S le
-
--- a place carries a client byte exactly where the whole part steps
-pub carries-steps : (C S : ℕ) → C ≤ S → (n : ℕ) → (carries C S (n + 1) ≡ true) ↔ ((n + 1) * C / S ≡ n * C / S + 1)
-carries-steps C S le n =
-    ⊎-elim
-    (λ s. (λ _. s .count, λ _. s .place))
-    (λ s. (λ t. absurd (true≢false (sym t ∙ s .place)), λ e. absurd (omega (arith, s .count))))
-    (step C S le n)
 
 -- what it is for a row to fit, in numbers
 pub fits-where : (k r C : ℕ) → k < 4294967296 → r < 4 → C ≤ payloadBytes k → rowFits k r C ≡ true

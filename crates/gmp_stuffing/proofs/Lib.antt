@@ -1,10 +1,8 @@
 -- The arguments behind the placing's proofs, and in Laws what other crates cite. Assumes nothing.
 pub mod Copies
-pub mod Steps
 mod Filled
 mod Runs
 mod Parts
 mod Turns
 mod Singles
-mod Even
 pub mod Laws

@@ -11,10 +11,10 @@ use lib.Arith.{mod-mul}
 use lib.ListN.{length, getD, take, drop, set, length-append, length-drop, List·getD-append}
 use lib.Seq.{length-take-le, take-append-le, take-at, drop-at, getD-at, getD-append-add, split-at}
 use Rattle.gmp_stuffing.specs.Copied.{copied}
-use Rattle.gmp_stuffing.specs.Places.{placed, tabulate, chosen}
+use Rattle.gmp_places.specs.Places.{placed, tabulate, chosen}
 use Rattle.gmp_stuffing.specs.Row.{rowBytes, rowClient}
 use Rattle.gmp_stuffing.proofs.Filled.{Filled, filled-none, filled-less, filled-store, filled-copy, filled-all}
-use Rattle.gmp_stuffing.proofs.Steps.{Stuffing, Client, step, count-le, count-all, placed-client, placed-stuffing, tabulate-append, length-tabulate, chosen-append, length-chosen, tabulate-more}
+use Rattle.gmp_places.proofs.Steps.{Stuffing, Client, step, count-le, count-all, placed-client, placed-stuffing, tabulate-append, length-tabulate, chosen-append, length-chosen, tabulate-more}
 
 -- a row's number is at most 3, and the row lies within the payload
 pub row-le : (r n : ℕ) → r < 4 → r * n ≤ 3 * n

@@ -8,9 +8,9 @@ use native.Mathlib.Decide.{decLe}
 use native.Mathlib.Omega.{arith}
 use lib.ListN.{length, getD, take, set, replicate, length-take, length-set, length-replicate, getD-replicate, List·getD-eq-default}
 use lib.Seq.{getD-take, getD-set-same, getD-set-other, ext-getD}
-use Rattle.gmp_stuffing.specs.Places.{placed, tabulate}
+use Rattle.gmp_places.specs.Places.{placed, tabulate}
 use Rattle.gmp_stuffing.specs.Row.{rowBytes}
-use Rattle.gmp_stuffing.proofs.Steps.{Client, step, placed-client, placed-stuffing, length-tabulate}
+use Rattle.gmp_places.proofs.Steps.{Client, step, placed-client, placed-stuffing, length-tabulate}
 use Rattle.gmp_stuffing.proofs.Runs.{later, in-row, getD-tabulate}
 
 -- of the first j, number n is there or not, and one more changes nothing but at j

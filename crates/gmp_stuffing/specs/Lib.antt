@@ -1,7 +1,3 @@
--- Where the client bytes stand in a payload, how evenly they lie, and what is written to a row and
--- taken out of it. Assumes nothing.
-pub mod Places
-pub mod Even
+-- What is written to a row and taken out of it. Assumes nothing.
 pub mod Row
 pub mod Copied
-pub mod Worked

@@ -6,7 +6,7 @@ use Prim.Native.Nat.{ℕ, _+_, _*_, _/_}
 use lib.ListN.{length, take, drop}
 use lib.Dec.{ltb, leb}
 use Rattle.gmp_settings.specs.Grid.{payloadBytes}
-use Rattle.gmp_stuffing.specs.Places.{placed, tabulate, chosen}
+use Rattle.gmp_places.specs.Places.{placed, tabulate, chosen}
 
 -- the K payload bytes of row r in a frame of these client bytes; their number is the count
 abbrev pub rowBytes : ℕ → ℕ → List ℕ → List ℕ

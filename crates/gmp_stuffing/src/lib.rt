@@ -8,8 +8,6 @@ ghost use mathlib.Core.Bool.{_&&_};
 ghost use Prim.Native.Nat.{ℕ, _+_, _-_, _*_, _/_, _%_, _≤_, _<_};
 ghost use lib.ListN.{length, replicate};
 ghost use lib.Dec.{ltb, leb};
-ghost use Rattle.gmp_stuffing.specs.Places.{PlacesCounted};
-ghost use Rattle.gmp_stuffing.specs.Even.{BytesLieEvenly};
 ghost use Rattle.gmp_stuffing.specs.Row.{rowFits, rowBytes, rowClient, rowPlaced, rowTaken};
 ghost use Rattle.gmp_stuffing.specs.Copied.{copied};
 
@@ -84,18 +82,6 @@ pub fn take_row(part: &[u8], count: usize, r: usize, out: &mut [u8])
         }
     }
 }
-
-// There are exactly C places, and among the first n exactly the whole part of n * C / S.
-pub fn places_counted()
-    ensures { λ _. ⌜ PlacesCounted ⌝ }
-{}
-
-// On every grid from K = 1 on, with a count C of at most S, the client bytes in any run of L
-// successive payload bytes of one frame differ from L * C / S by less than one, and no smaller
-// figure holds.
-pub fn bytes_lie_evenly()
-    ensures { λ _. ⌜ BytesLieEvenly ⌝ }
-{}
 
 // Whether r is one of four rows of k payload bytes, with k below 2^32, and c client bytes fit the
 // payload.

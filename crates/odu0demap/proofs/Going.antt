@@ -16,15 +16,16 @@ use Rattle.gmp_sink.specs.Sink.{mendedIn}
 use Rattle.program_stream.specs.declared.Held.{Held}
 use Rattle.program_stream.specs.Gather.{heldBytes, Has}
 use Rattle.program_stream.proofs.Laws.{held-length, held-behind, put-behind}
-use Rattle.odu0demap.specs.declared.Wanted.{Wanted}
-use Rattle.odu0demap.specs.declared.Demapper.{Demapper}
-use Rattle.odu0demap.specs.declared.Taken.{Taken}
+use Rattle.program_demap.specs.declared.Wanted.{Wanted}
+use Rattle.program_demap.specs.declared.Demapper.{Demapper}
+use Rattle.program_demap.specs.declared.Taken.{Taken}
 use Rattle.odu0demap.specs.declared.Told.{Told}
 use Rattle.odu0demap.specs.declared.Told.the-variants.{Nothing, Last}
 use Rattle.odu0demap.specs.declared.Run.{Run}
 use Rattle.odu0demap.specs.declared.Next.{Next}
 use Rattle.odu0demap.specs.declared.Next.the-variants.{From, End}
-use Rattle.odu0demap.specs.Demapping.{settingsOf, control, standingOf, newDemapper, demapperAfter, handedBytes, isQuiet, quiet, frameAt, framesIn, demapperOver, handedOver, allQuiet, Takes, Telling, Runs, TakesFrames, Goes, GoesOn, DemapsAll}
+use Rattle.program_demap.specs.Frames.{settingsOf, control, standingOf, newDemapper, demapperAfter, handedBytes, isQuiet, quiet, Takes}
+use Rattle.odu0demap.specs.Demapping.{frameAt, framesIn, demapperOver, handedOver, allQuiet, Telling, Runs, TakesFrames, Goes, GoesOn, DemapsAll}
 
 -- one frame more
 frames-next : (n : ℕ) (bytes : List ℕ) → framesIn (n + 1) bytes ≡ framesIn n bytes ++ (frameAt n bytes ∷ [])

@@ -1,3 +1,2 @@
 -- The program odu0demap. Assumes nothing.
-mod Laws
 mod Going

@@ -6,9 +6,6 @@
 // at the end the tally. Its frames are those of one port, port 1.
 use card_tally::Tally;
 use gmp_payload_type::AcceptedType;
-use gmp_payload_type::Expected;
-use gmp_sink::SinkAnswer;
-use gmp_sink::SinkState;
 use gmp_standing::Count;
 use gmp_standing::NAME_LENGTHS;
 use gmp_standing::NAMES;
@@ -16,6 +13,8 @@ use gmp_standing::Standing;
 use libc::STDERR_FILENO;
 use libc::STDIN_FILENO;
 use program_decimal::Number;
+use program_demap::Demapper;
+use program_demap::Wanted;
 use program_stream::Held;
 use program_stream::Supplied;
 ghost use mathlib.Core.Path.{_≡_};
@@ -23,34 +22,8 @@ ghost use mathlib.Core.Bool.{true};
 ghost use Prim.Native.Nat.{_≤_, _<_};
 ghost use lib.ListN.{length};
 ghost use Rattle.io.specs.Counts.{Counts};
-ghost use Rattle.gmp_standing.specs.Standing.{standingMeaning};
 ghost use Rattle.program_stream.specs.Gather.{heldBytes, Has};
-ghost use Rattle.odu0demap.specs.Demapping.{isWord, newDemapper, sameCount, isSame, isSilent, sameType, isQuiet, framesIn, handedOver, Goes, GoesOn, DemapsAll, Takes, Runs};
-
-// What the arguments ask for: mending, the type check, and the type expected.
-struct Wanted {
-    mending: bool,
-    type_check: bool,
-    payload_type: u8,
-}
-
-// The sink's state, its port's tally, the number of the last standing, 0 before the first frame,
-// and the multiframe number of the next frame.
-struct Demapper {
-    state: SinkState,
-    tally: Tally,
-    last: u32,
-    multiframe: u32,
-}
-
-// What a frame came to: the bytes handed out, its standing, whether a wrong control bit was mended,
-// and the demapper after it.
-struct Taken {
-    handed: u32,
-    standing: Standing,
-    mended: bool,
-    after: Demapper,
-}
+ghost use Rattle.odu0demap.specs.Demapping.{isWord, framesIn, handedOver, Goes, GoesOn, DemapsAll, Runs};
 
 // What is to be told of a run of frames: nothing, or of its last frame the standing, and whether it
 // was mended.
@@ -190,7 +163,7 @@ fn demap_stream(wanted: Wanted, frames: &mut [u8], out: &mut [u8]) -> Demapper
     requires { ⌜ (length (now frames) ≡ 243840) × (length (now out) ≡ 230560) ⌝ }
     ensures { λ r. ⌜ DemapsAll wanted r ⌝ }
 {
-    let mut demapper = new_demapper();
+    let mut demapper = program_demap::new_demapper();
     let mut held = Held { at: 0, end: 0 };
     let mut taken: u64 = 0;
     while taken < u64::MAX - 16 {
@@ -203,23 +176,6 @@ fn demap_stream(wanted: Wanted, frames: &mut [u8], out: &mut [u8]) -> Demapper
         taken += number as u64;
     }
     demapper
-}
-
-// A new sink, with nothing tallied.
-fn new_demapper() -> Demapper
-    ensures { λ r. ⌜ r ≡ newDemapper ⌝ }
-{
-    let state = gmp_sink::new_sink();
-    Demapper {
-        state: state,
-        tally: Tally {
-            frames: 0,
-            bad: 0,
-            bytes: 0,
-        },
-        last: 0,
-        multiframe: 0,
-    }
 }
 
 // Reads on until a whole frame is held, and takes the next run of them, or says what is left where
@@ -315,12 +271,17 @@ fn demap_run(wanted: Wanted, first: Demapper, frames: &[u8], out: &mut [u8]) -> 
         }
         let end = at + 15240;
         let room = handed + 14410;
-        let taken = demap_frame(wanted, demapper, &frames[at..end], &mut out[handed..room]);
+        let taken = program_demap::demap_frame(
+            wanted,
+            demapper,
+            &frames[at..end],
+            &mut out[handed..room],
+        );
         let standing = taken.standing;
         let after = taken.after;
         number += 1;
         handed += taken.handed as usize;
-        if is_quiet(demapper, taken) {
+        if program_demap::is_quiet(demapper, taken) {
             demapper = after;
         } else {
             return Run {
@@ -341,61 +302,6 @@ fn demap_run(wanted: Wanted, first: Demapper, frames: &[u8], out: &mut [u8]) -> 
     }
 }
 
-// Hands a frame to the sink and tallies it, on port 1 of a card whose other ports are idle. With
-// these settings, lengths and port no call is refused.
-fn demap_frame(wanted: Wanted, demapper: Demapper, frame: &[u8], out: &mut [u8]) -> Taken
-    requires { ⌜ (length (now frame) ≡ 15240) × (length (now out) ≡ 14410) ⌝ }
-    ensures { λ r. ⌜ Takes wanted demapper (now (frame .entry)) r (now (out .exit)) ⌝ }
-{
-    let mending = gmp_settings::with_mending(gmp_settings::opu0(), wanted.mending);
-    let settings = gmp_settings::with_type_check(mending, wanted.type_check);
-    let expected = Expected {
-        multiframe: demapper.multiframe,
-        payload_type: wanted.payload_type,
-    };
-    let state = demapper.state;
-    let before = demapper.tally;
-    let mut card = card_tally::new_tallies();
-    card.ports[0] = before;
-    let counted = card_sink::lend_call(settings, state, expected, frame, out, 1, card);
-    let result = counted.result;
-    let tally = card_tally::tally_of(counted.tallies, 1);
-    let answer = result.answer;
-    let after = result.state;
-    let SinkAnswer::Done(standing) = answer else {
-        return Taken {
-            handed: 0,
-            standing: Standing::Waiting,
-            mended: false,
-            after: demapper,
-        };
-    };
-    Taken {
-        handed: result.handed,
-        standing: standing,
-        mended: result.mended,
-        after: Demapper {
-            state: after,
-            tally: tally,
-            last: gmp_standing::standing_number(standing),
-            multiframe: (demapper.multiframe % 256 + 1) % 256,
-        },
-    }
-}
-
-// Whether nothing is to be told of a frame: neither its standing, nor a change of the accepted
-// type.
-fn is_quiet(before: Demapper, taken: Taken) -> bool
-    ensures { λ r. ⌜ r ≡ isQuiet before (standingMeaning (taken .standing)) (taken .mended) (taken .after) ⌝ }
-{
-    let standing = taken.standing;
-    let after = taken.after;
-    if is_silent(before, standing, taken.mended) {
-        return is_same_type(accepted_type(before), accepted_type(after));
-    }
-    false
-}
-
 // Says how the last frame of a run changed the standing and the accepted type, where that is to be
 // told: only once the bytes of the run are written.
 fn show_told(is_written: bool, frame_number: u64, run: Run)
@@ -408,14 +314,18 @@ fn show_told(is_written: bool, frame_number: u64, run: Run)
     let before = run.before;
     let after = run.after;
     show_change(frame_number, before, standing, mended);
-    show_type(frame_number, accepted_type(before), accepted_type(after));
+    show_type(
+        frame_number,
+        program_demap::accepted_type(before),
+        program_demap::accepted_type(after),
+    );
 }
 
 // Says the standing of a frame, its count or "-", and that it was mended, where there is anything
 // new to say: by one write, since at the usual rate nearly every frame has such a line. The longest
 // has 6, 20, 2, 8, 1, 10 and 8 bytes for its seven parts, 55 in all.
 fn show_change(frame_number: u64, before: Demapper, standing: Standing, mended: bool) {
-    if is_silent(before, standing, mended) {
+    if program_demap::is_silent(before, standing, mended) {
         return;
     }
     let mut line = [0u8; 64];
@@ -491,7 +401,7 @@ fn put(line: &mut [u8], at: usize, text: &[u8]) -> usize
 
 // Says the accepted type where there is one, and it is another than before the frame.
 fn show_type(frame_number: u64, before: AcceptedType, after: AcceptedType) {
-    if is_same_type(before, after) {
+    if program_demap::is_same_type(before, after) {
         return;
     }
     let AcceptedType::PayloadType(accepted) = after else {
@@ -499,71 +409,6 @@ fn show_type(frame_number: u64, before: AcceptedType, after: AcceptedType) {
     };
     program_stream::say(b"frame ", frame_number);
     program_stream::say_line(b": accepted type ", accepted as u64);
-}
-
-// Whether nothing is said of a frame: nothing was mended, and its standing is that of the frame
-// before.
-fn is_silent(before: Demapper, standing: Standing, mended: bool) -> bool
-    ensures { λ r. ⌜ r ≡ isSilent before (standingMeaning standing) mended ⌝ }
-{
-    if mended {
-        return false;
-    }
-    is_same(before, standing)
-}
-
-// Whether a standing is that of the frame before: the same name, and the same count found, which
-// the sink's state has kept.
-fn is_same(before: Demapper, standing: Standing) -> bool
-    ensures { λ r. ⌜ r ≡ isSame before (standingMeaning standing) ⌝ }
-{
-    let state = before.state;
-    let kept = state.count;
-    if gmp_standing::standing_number(standing) != before.last {
-        return false;
-    }
-    is_same_count(gmp_standing::found_count(standing), kept)
-}
-
-// Whether two counts are the same, known or not.
-fn is_same_count(one: Count, other: Count) -> bool
-    ensures { λ r. ⌜ r ≡ sameCount one other ⌝ }
-{
-    let Count::Known(n) = one else {
-        let Count::Known(_) = other else {
-            return true;
-        };
-        return false;
-    };
-    let Count::Known(m) = other else {
-        return false;
-    };
-    n == m
-}
-
-// Whether two accepted types are the same, or there is none both times.
-fn is_same_type(one: AcceptedType, other: AcceptedType) -> bool
-    ensures { λ r. ⌜ r ≡ sameType one other ⌝ }
-{
-    let AcceptedType::PayloadType(earlier) = one else {
-        let AcceptedType::PayloadType(_) = other else {
-            return true;
-        };
-        return false;
-    };
-    let AcceptedType::PayloadType(later) = other else {
-        return false;
-    };
-    earlier == later
-}
-
-// The type that a demapper's sink has accepted, or none.
-fn accepted_type(demapper: Demapper) -> AcceptedType
-    ensures { λ r. ⌜ r ≡ demapper .state .types .accepted ⌝ }
-{
-    let state = demapper.state;
-    let types = state.types;
-    types.accepted
 }
 
 // Says the tally: frames taken, BADCHECK frames and bytes handed out.

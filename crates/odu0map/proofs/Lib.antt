@@ -1,3 +1,2 @@
 -- The program odu0map. Assumes nothing.
-mod Laws
 mod Loads

@@ -14,12 +14,13 @@ use Rattle.program_stream.specs.Gather.{heldBytes, Has}
 use Rattle.program_stream.proofs.Laws.{held-length, held-behind, put-behind}
 use Rattle.gmp_settings.specs.Settings.{opu0}
 use Rattle.gmp_source.specs.Source.{written}
-use Rattle.odu0map.specs.declared.Rate.{Rate}
-use Rattle.odu0map.specs.declared.Mapper.{Mapper}
+use Rattle.program_map.specs.declared.Rate.{Rate}
+use Rattle.program_map.specs.declared.Mapper.{Mapper}
 use Rattle.odu0map.specs.declared.Batch.{Batch}
 use Rattle.odu0map.specs.declared.Next.{Next}
 use Rattle.odu0map.specs.declared.Next.the-variants.{From, End}
-use Rattle.odu0map.specs.Mapping.{countFrom, Ready, mapped, Maps, mapperAfter, bytesAfter, loadAt, frameAt, framesAfter, Batched, MapsLoads, Goes, GoesOn}
+use Rattle.program_map.specs.Frames.{countFrom, Ready, mapped, Maps}
+use Rattle.odu0map.specs.Mapping.{mapperAfter, bytesAfter, loadAt, frameAt, framesAfter, Batched, MapsLoads, Goes, GoesOn}
 
 -- one frame more
 mapper-after-next : (a : Rate) (m : Mapper) (n : ℕ) → mapped a (mapperAfter a m n) ≡ mapperAfter a m (n + 1)

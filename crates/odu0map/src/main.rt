@@ -1,45 +1,28 @@
 // Maps standard input, a stream of client bytes, into OPU0 frames on standard output, at the rate
 // p / q of client bytes a frame. The two numbers are the program's arguments; with none the rate is
 // 18,671,875 / 1,296.
-use gmp_rate::KeeperAnswer;
 use gmp_refusal::NAME_LENGTHS;
 use gmp_refusal::NAMES;
 use gmp_refusal::Refusal;
 use gmp_refusal::Verdict;
-use gmp_source::SourceStart;
-use gmp_source::SourceState;
 use libc::STDERR_FILENO;
 use libc::STDIN_FILENO;
 use program_decimal::Number;
+use program_map::Mapper;
+use program_map::Rate;
+use program_map::Start;
 use program_stream::Held;
 use program_stream::Supplied;
 ghost use mathlib.Core.Path.{_≡_};
 ghost use lib.ListN.{length};
 ghost use Rattle.program_stream.specs.Gather.{heldBytes, Has};
-ghost use Rattle.odu0map.specs.Mapping.{Ready, startMeaning, startAnswer, framesAfter, Goes, GoesOn, Maps, MapsLoads, Counts};
-
-// The rate p / q.
-struct Rate {
-    p: u32,
-    q: u32,
-}
+ghost use Rattle.program_map.specs.Frames.{Ready};
+ghost use Rattle.odu0map.specs.Mapping.{framesAfter, Goes, GoesOn, MapsLoads, Counts};
 
 // The rate that the arguments ask for, or that they are wrong.
 enum Asked {
     At(Rate),
     Wrong,
-}
-
-// The source's state, and the rate keeper's remainder.
-struct Mapper {
-    source: SourceState,
-    remainder: u32,
-}
-
-// A new mapper, or why there is none.
-enum Start {
-    New(Mapper),
-    Refused(Refusal),
 }
 
 // The frames of the writes that were done, and the client bytes that they carry, modulo 2^64.
@@ -73,7 +56,7 @@ fn main() {
         show_usage();
         return;
     };
-    let start = new_mapper(rate);
+    let start = program_map::new_mapper(rate);
     match start {
         Start::New(mapper) => show_totals(map_all(rate, mapper)),
         Start::Refused(refusal) => show_refusal(refusal),
@@ -100,34 +83,6 @@ fn asked_rate() -> Asked {
         return Asked::Wrong;
     };
     Asked::At(Rate { p: p, q: q })
-}
-
-// A new rate keeper, and a new source with the keeper's first count and payload type 7. The source
-// never refuses that count.
-fn new_mapper(rate: Rate) -> Start
-    ensures { λ r. ⌜ startMeaning r ≡ startAnswer rate ⌝ }
-{
-    let kept = gmp_rate::next_count(
-        gmp_settings::opu0(),
-        rate.p,
-        rate.q,
-        gmp_rate::first_remainder(rate.q),
-    );
-    let answer = kept.answer;
-    let remainder = kept.remainder;
-    match answer {
-        KeeperAnswer::Refused(refusal) => Start::Refused(refusal),
-        KeeperAnswer::Next(first) => {
-            let started = gmp_source::new_source(gmp_settings::opu0(), first, 7);
-            match started {
-                SourceStart::Refused(refusal) => Start::Refused(refusal),
-                SourceStart::New(state) => Start::New(Mapper {
-                    source: state,
-                    remainder: remainder,
-                }),
-            }
-        }
-    }
 }
 
 // Maps load after load, with room for 16 of the largest loads and for their frames.
@@ -245,7 +200,7 @@ fn map_loads(rate: Rate, first: Mapper, client: &[u8], frames: &mut [u8]) -> Bat
         let place = 15240 * number;
         let place_end = place + 15240;
         let load = &client[at..end];
-        mapper = make_frame(rate, mapper, load, &mut frames[place..place_end]);
+        mapper = program_map::make_frame(rate, mapper, load, &mut frames[place..place_end]);
         at = end;
         number += 1;
     }
@@ -253,26 +208,6 @@ fn map_loads(rate: Rate, first: Mapper, client: &[u8], frames: &mut [u8]) -> Bat
         mapper: mapper,
         frames: number,
         bytes: at,
-    }
-}
-
-// Makes the frame of a load, which announces the keeper's next count. Neither the keeper nor the
-// source refuses.
-fn make_frame(rate: Rate, mapper: Mapper, load: &[u8], frame: &mut [u8]) -> Mapper
-    requires { ⌜ Ready rate mapper × (length (now load) ≡ mapper .source .count) × (length (now frame) ≡ 15240) ⌝ }
-    ensures { λ r. ⌜ Maps rate mapper (now (load .entry)) r (now (frame .exit)) ⌝ }
-{
-    let kept = gmp_rate::next_count(gmp_settings::opu0(), rate.p, rate.q, mapper.remainder);
-    let answer = kept.answer;
-    let KeeperAnswer::Next(next) = answer else {
-        return mapper;
-    };
-    let source = mapper.source;
-    let result = gmp_source_call::source_call(gmp_settings::opu0(), source, next, load, frame);
-    let after = result.state;
-    Mapper {
-        source: after,
-        remainder: kept.remainder,
     }
 }
 

@@ -14,11 +14,11 @@ use Rattle.gmp_payload_type.specs.declared.Expected.{Expected}
 use Rattle.gmp_sink.specs.declared.SinkState.{SinkState}
 use Rattle.gmp_sink.specs.declared.SinkResult.{SinkResult}
 use Rattle.gmp_sink.specs.Sink.{answerMeaning, sinkAnswer, sinkMended, sinkHanded}
-use Rattle.card_sink.specs.Card.{CallPromise}
+use Rattle.card_count.specs.Card.{CallPromise}
 use Rattle.c_settings.specs.Numbers.{settingsFrom}
-use Rattle.c_sink.specs.declared.SinkNumbers.{SinkNumbers}
-use Rattle.c_sink.specs.declared.SinkReply.{SinkReply}
-use Rattle.c_sink.specs.Numbers.{stateFrom, sinkReplyBy, talliesFrom, talliesNumbers, SinkCallPromise}
+use Rattle.c_sink_numbers.specs.declared.SinkNumbers.{SinkNumbers}
+use Rattle.c_sink_numbers.specs.declared.SinkReply.{SinkReply}
+use Rattle.c_sink_numbers.specs.Numbers.{stateFrom, sinkReplyBy, talliesFrom, talliesNumbers, SinkCallPromise}
 use Rattle.c_sink.proofs.odu0_sink_call.Statement.{statement}
 use Rattle.c_sink.proofs.odu0_sink_call.Tie as tie
 

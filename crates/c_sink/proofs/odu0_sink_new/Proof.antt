@@ -1,7 +1,7 @@
 -- `c_sink::odu0_sink_new` meets its contract. Assumes nothing.
 use mathlib.Core.Path.{_∙_, ap}
 use borrow.Author.Needs.{needs}
-use Rattle.c_sink.specs.Numbers.{stateNumbers}
+use Rattle.c_sink_numbers.specs.Numbers.{stateNumbers}
 use Rattle.c_sink.proofs.odu0_sink_new.Statement.{statement}
 use Rattle.c_sink.proofs.odu0_sink_new.Tie as tie
 

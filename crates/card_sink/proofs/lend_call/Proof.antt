@@ -49,8 +49,8 @@ use Rattle.gmp_payload_type.specs.declared.Expected.{Expected}
 use Rattle.gmp_sink.specs.declared.SinkState.{SinkState}
 use Rattle.card_tally.specs.declared.Tallies.{Tallies}
 use Rattle.gmp_sink.specs.declared.SinkResult.{SinkResult}
-use Rattle.card_sink.specs.declared.Counted.{Counted}
-use Rattle.card_sink.specs.Card.{CallPromise}
+use Rattle.card_count.specs.declared.Counted.{Counted}
+use Rattle.card_count.specs.Card.{CallPromise}
 use Rattle.gmp_settings.proofs.Settings as S
 use Rattle.gmp_settings.proofs.Settings.Laws as S′
 use Rattle.gmp_payload_type.proofs.Expected as E
@@ -61,8 +61,8 @@ use Rattle.card_tally.proofs.Tallies as T
 use Rattle.card_tally.proofs.Tallies.Laws as T′
 use Rattle.gmp_sink.proofs.SinkResult as R
 use Rattle.gmp_sink.proofs.SinkResult.Laws as R′
-use Rattle.card_sink.proofs.Counted as P
-use Rattle.card_sink.proofs.Counted.Laws as P′
+use Rattle.card_count.proofs.Counted as P
+use Rattle.card_count.proofs.Counted.Laws as P′
 use Rattle.card_sink.proofs.sink_call as call
 use Rattle.card_sink.proofs.sink_call.Symbol as call-def
 use Rattle.card_sink.proofs.sink_call.Symbol.{name as #card-sink·sink-call}

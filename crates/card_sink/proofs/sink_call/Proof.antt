@@ -48,8 +48,8 @@ use Rattle.gmp_payload_type.specs.declared.Expected.{Expected}
 use Rattle.gmp_sink.specs.declared.SinkState.{SinkState}
 use Rattle.card_tally.specs.declared.Tallies.{Tallies}
 use Rattle.gmp_sink.specs.declared.SinkResult.{SinkResult}
-use Rattle.card_sink.specs.declared.Counted.{Counted}
-use Rattle.card_sink.specs.Card.{CallPromise}
+use Rattle.card_count.specs.declared.Counted.{Counted}
+use Rattle.card_count.specs.Card.{CallPromise}
 use Rattle.gmp_settings.proofs.Settings as S
 use Rattle.gmp_settings.proofs.Settings.Laws as S′
 use Rattle.gmp_payload_type.proofs.Expected as E
@@ -60,12 +60,12 @@ use Rattle.card_tally.proofs.Tallies as T
 use Rattle.card_tally.proofs.Tallies.Laws as T′
 use Rattle.gmp_sink.proofs.SinkResult as R
 use Rattle.gmp_sink.proofs.SinkResult.Laws as R′
-use Rattle.card_sink.proofs.Counted as P
-use Rattle.card_sink.proofs.Counted.Laws as P′
-use Rattle.card_sink.proofs.count_call as step
-use Rattle.card_sink.proofs.count_call.Symbol as step-def
-use Rattle.card_sink.proofs.count_call.Symbol.{name as #card-sink·count-call}
-use Rattle.card_sink.proofs.count_call.Met as step-thm
+use Rattle.card_count.proofs.Counted as P
+use Rattle.card_count.proofs.Counted.Laws as P′
+use Rattle.card_count.proofs.count_call as step
+use Rattle.card_count.proofs.count_call.Symbol as step-def
+use Rattle.card_count.proofs.count_call.Symbol.{name as #card-count·count-call}
+use Rattle.card_count.proofs.count_call.Met as step-thm
 use Rattle.card_sink.proofs.sink_call.Key.{name as #card-sink·sink-call}
 use Rattle.card_sink.proofs.sink_call as call
 use Rattle.card_sink.proofs.sink_call.Statement as stated
@@ -157,7 +157,7 @@ module _ {M : Type 1} (𝓤 : URA M) (H : Heap 𝓤) (A : Atoms 𝓤) (W : Given
   abbrev Last : Type 0
   Last = Unit {0} × (Unit {0} × (Unit {0} × (Unit {0} × (List ℕ × (Unit {0} × (Unit {0} × Unit {0}))))))
 
-  module _ (C : Calls 𝓤 H) (Λ : Loops 𝓤 H) (fm : FmC 𝓤 H (W .laws) C) (known : Triple 𝓤 (C #card-sink·count-call) (Step 𝓤 H A at-mem run)) where
+  module _ (C : Calls 𝓤 H) (Λ : Loops 𝓤 H) (fm : FmC 𝓤 H (W .laws) C) (known : Triple 𝓤 (C #card-count·count-call) (Step 𝓤 H A at-mem run)) where
     walk : Is (ShrSlice (named 0) κ₀ u8) f (fv ∷ []) → Room u8 (length (x .now))
         → ent 𝓤 (onEntry 𝓤 H A call.signature (κ₀, (κ₁, (κ₂, tt))) (q₀, (q₁, (q₂, tt))) a vals) (WpFn 𝓤 H C Λ code.function (LL.val S.the-type S′.the-laws s ∷ LL.val Q.the-type Q′.the-laws t ∷ LL.val E.the-type E′.the-laws u ∷ fv ∷ xv ∷ vint w32 n ∷ vptr b o ∷ []) Post)
     walk p room =
@@ -204,7 +204,7 @@ module _ {M : Type 1} (𝓤 : URA M) (H : Heap 𝓤) (A : Atoms 𝓤) (W : Given
         keep ! (0 ∷ 1 ∷ 2 ∷ 4 ∷ 5 ∷ 6 ∷ []) $ by ! (exits r (zs .1 .1 .1 .1 .0) e l (fields .0))))))))))))))))))))))
 
 module _ {M : Type 1} (𝓤 : URA M) (H : Heap 𝓤) (A : Atoms 𝓤) (W : Given 𝓤 H A) (at-mem : Memory → SProp 𝓤) (run : Routine → Fun 𝓤) where
-  call-walks : (C : Calls 𝓤 H) (Λ : Loops 𝓤 H) → FmC 𝓤 H (W .laws) C → Triple 𝓤 (C #card-sink·count-call) (Step 𝓤 H A at-mem run) → Walks 𝓤 H A call.ended stayed (WpFn 𝓤 H C Λ code.function) (call.clauses 𝓤 H A at-mem run)
+  call-walks : (C : Calls 𝓤 H) (Λ : Loops 𝓤 H) → FmC 𝓤 H (W .laws) C → Triple 𝓤 (C #card-count·count-call) (Step 𝓤 H A at-mem run) → Walks 𝓤 H A call.ended stayed (WpFn 𝓤 H C Λ code.function) (call.clauses 𝓤 H A at-mem run)
   call-walks C Λ fm known = walked 𝓤 H A call.ended stayed (call.clauses 𝓤 H A at-mem run) (WpFn 𝓤 H C Λ code.function) (λ κs. (S-vals, (Q-vals, (E-vals, (slice-vals, (slice-vals, (uint-vals w32, (ptr-vals, tt))))))))
       (λ κs. (LL.tells S.the-type S′.the-laws, (LL.tells Q.the-type Q′.the-laws, (LL.tells E.the-type E′.the-laws, (shr-slice-tells (named 0) (κs .0) u8, (mut-slice-tells (named 1) (κs .1 .0) u8, (uint-tells w32, (mut-tells (named 2) (κs .1 .1 .0) T.the-row, tt))))))))
       (λ κs qs bounds a _ are. via 𝓤 _ (fst∗ 𝓤 _ (emp 𝓤)) (walk 𝓤 H A W at-mem run (κs .0) (κs .1 .0) (κs .1 .1 .0) (qs .0) (qs .1 .0) (qs .1 .1 .0) (a .0) (a .1 .0) (a .1 .1 .0) (a .1 .1 .1 .0) (a .1 .1 .1 .1 .0) (a .1 .1 .1 .1 .1 .0)
@@ -213,7 +213,7 @@ module _ {M : Type 1} (𝓤 : URA M) (H : Heap 𝓤) (A : Atoms 𝓤) (W : Given
   goes : AllGo 𝓤 H A W 3 (call.signature .params) (call.ended .kept) stayed
   goes = (goes-none 𝓤 H A W 3 (λ _. S.the-row) yes (λ κs x f. refl), (goes-none 𝓤 H A W 3 (λ _. Q.the-row) yes (λ κs x f. refl), (goes-none 𝓤 H A W 3 (λ _. E.the-row) yes (λ κs x f. refl), (goes-none-slice 𝓤 H A W 3 (0 ∷ []) tt (plain (λ _. u8)) yes, (goes-gave-slice 𝓤 H A W 3 1 tt (plain (λ _. u8)), (goes-none 𝓤 H A W 3 (λ _. u32) yes (λ κs x f. refl), (goes-ref 𝓤 H A W 3 2 tt (plain (λ _. T.the-row)), tt)))))))
 
-call-meets : {M : Type 1} (𝓤 : URA M) (H : Heap 𝓤) (A : Atoms 𝓤) (W : Given 𝓤 H A) (at-mem : Memory → SProp 𝓤) (run : Routine → Fun 𝓤) (𝓣 : Tables 𝓤 H) → Triple 𝓤 (𝓣 .C #card-sink·count-call) (Step 𝓤 H A at-mem run)
+call-meets : {M : Type 1} (𝓤 : URA M) (H : Heap 𝓤) (A : Atoms 𝓤) (W : Given 𝓤 H A) (at-mem : Memory → SProp 𝓤) (run : Routine → Fun 𝓤) (𝓣 : Tables 𝓤 H) → Triple 𝓤 (𝓣 .C #card-count·count-call) (Step 𝓤 H A at-mem run)
     → Meets 𝓤 H A call.signature (WpFn 𝓤 H (𝓣 .C) (𝓣 .Λ) code.function) (call.spec 𝓤 H A at-mem run)
 call-meets 𝓤 H A W at-mem run 𝓣 known = walk-meets 𝓤 H A call.ended stayed W (goes 𝓤 H A W at-mem run) (call.clauses 𝓤 H A at-mem run) (WpFn 𝓤 H (𝓣 .C) (𝓣 .Λ) code.function) (WpFn-mono 𝓤 H (W .laws) 𝓣 code.function) (call-walks 𝓤 H A W at-mem run (𝓣 .C) (𝓣 .Λ) (fmOf 𝓤 H (W .laws) 𝓣) known)
 
@@ -223,4 +223,4 @@ sink-call-spec 𝓤 H 𝓜 𝓖 𝓡 =
     entered 𝓤 H (tripleOf 𝓤 H (𝓖 .A) call.signature (call.spec 𝓤 H (𝓖 .A) (𝓜 .mem) (𝓡 .run)))
     (tables 𝓤 H 𝓜 𝓡 code.env .C) (tables 𝓤 H 𝓜 𝓡 code.env .Λ) #card-sink·sink-call code.function (code.unfolded 𝓤 H 𝓜 𝓡)
     (call-meets 𝓤 H (𝓖 .A) (givenOf 𝓤 H 𝓜 𝓖) (𝓜 .mem) (𝓡 .run) (tablesOf 𝓤 H 𝓜 (tables 𝓤 H 𝓜 𝓡 code.env))
-    (cited 𝓤 H (Step 𝓤 H (𝓖 .A) (𝓜 .mem) (𝓡 .run)) 𝓜 𝓡 code.env #card-sink·count-call step-def.routine code.calls-card-sink·count-call (step-thm.met 𝓤 H 𝓜 𝓖 𝓡)))
+    (cited 𝓤 H (Step 𝓤 H (𝓖 .A) (𝓜 .mem) (𝓡 .run)) 𝓜 𝓡 code.env #card-count·count-call step-def.routine code.calls-card-count·count-call (step-thm.met 𝓤 H 𝓜 𝓖 𝓡)))

@@ -5,8 +5,8 @@ use native.Mathlib.Nat.{mul-zero, zero-div}
 use native.Mathlib.Omega.{arith}
 use lib.ListN.{length, take, length-set}
 use borrow.Author.Needs.{needs}
-use Rattle.gmp_stuffing.specs.Places.{placed, tabulate}
-use Rattle.gmp_stuffing.proofs.Steps.{count-le}
+use Rattle.gmp_places.specs.Places.{placed, tabulate}
+use Rattle.gmp_places.proofs.Steps.{count-le}
 use Rattle.gmp_stuffing.proofs.Runs.{row-within, row-count, row-end}
 use Rattle.gmp_stuffing.proofs.Turns.{Single, single-row, found}
 use Rattle.gmp_stuffing.proofs.Singles.{zeros-placed, one-placed, row-placed}

@@ -57,10 +57,7 @@ part-demap-frame-end-2 : tie.Need-part-demap-frame-end-2 Inv-loop μ-loop
 part-demap-frame-end-2 c = search needs
 
 demap-frame-requires : tie.Need-demap-frame-requires Inv-loop μ-loop
-demap-frame-requires c κs =
-    let g = c .before .before .before .before .before .before .before .args in
-    let l = c .before .before .before .before .loop in
-    running-asks (g .wanted) (g .first) (g .frames .now) (l .demapper) (l .number) (l .handed) (l .out) (l .inv) (c .before .before .before .loop-test .taken) (c .before .before .if1 .left)
+demap-frame-requires c κs = search needs
 
 add-number : tie.Need-add-number Inv-loop μ-loop
 add-number c = search needs
@@ -82,7 +79,8 @@ loop-again c =
     let g = c .before .before .before .before .before .before .before .before .before .before .before .before .before .before .args in
     let l = c .before .before .before .before .before .before .before .before .before .before .before .loop in
     let k = c .before .before .before .before .before .before .demap-frame in
-    running-next (g .wanted) (g .first) (g .frames .now) (l .demapper) (l .number) (l .handed) (l .out) (l .inv) (c .before .before .before .before .before .before .before .before .before .before .loop-test .taken) (c .before .before .before .before .before .before .before .before .before .if1 .left) (k .result) (k .last .1 .1 .1 .0) (k .ensures) (k .kept .1 .1 .1 .0) (sym (c .if2 .taken) ∙ c .before .is-quiet .ensures)
+    let asks = running-asks (g .wanted) (g .first) (g .frames .now) (l .demapper) (l .number) (l .handed) (l .out) (l .inv) (c .before .before .before .before .before .before .before .before .before .before .loop-test .taken) (c .before .before .before .before .before .before .before .before .before .if1 .left) in
+    running-next (g .wanted) (g .first) (g .frames .now) (l .demapper) (l .number) (l .handed) (l .out) (l .inv) (c .before .before .before .before .before .before .before .before .before .before .loop-test .taken) (c .before .before .before .before .before .before .before .before .before .if1 .left) (k .result) (k .last .1 .1 .1 .0) (k .ensures (asks .0) (asks .1)) (k .kept .1 .1 .1 .0) (sym (c .if2 .taken) ∙ c .before .is-quiet .ensures)
 
 same-length-2 : tie.Need-same-length-2 Inv-loop μ-loop
 same-length-2 c = search needs
@@ -92,7 +90,8 @@ returns-2 c =
     let g = c .before .before .before .before .before .before .before .before .before .before .before .before .before .before .args in
     let l = c .before .before .before .before .before .before .before .before .before .before .before .loop in
     let k = c .before .before .before .before .before .before .demap-frame in
-    run-told (g .wanted) (g .first) (g .frames .now) (l .demapper) (l .number) (l .handed) (l .out) (l .inv) (c .before .before .before .before .before .before .before .before .before .before .loop-test .taken) (c .before .before .before .before .before .before .before .before .before .if1 .left) (k .result) (k .last .1 .1 .1 .0) (k .ensures) (k .kept .1 .1 .1 .0) (sym (c .if2 .left) ∙ c .before .is-quiet .ensures)
+    let asks = running-asks (g .wanted) (g .first) (g .frames .now) (l .demapper) (l .number) (l .handed) (l .out) (l .inv) (c .before .before .before .before .before .before .before .before .before .before .loop-test .taken) (c .before .before .before .before .before .before .before .before .before .if1 .left) in
+    run-told (g .wanted) (g .first) (g .frames .now) (l .demapper) (l .number) (l .handed) (l .out) (l .inv) (c .before .before .before .before .before .before .before .before .before .before .loop-test .taken) (c .before .before .before .before .before .before .before .before .before .if1 .left) (k .result) (k .last .1 .1 .1 .0) (k .ensures (asks .0) (asks .1)) (k .kept .1 .1 .1 .0) (sym (c .if2 .left) ∙ c .before .is-quiet .ensures)
 
 same-length-3 : tie.Need-same-length-3 Inv-loop μ-loop
 same-length-3 c = search needs

@@ -1,7 +1,7 @@
 -- `odu0map::main` meets its contract. Assumes nothing.
 use mathlib.Core.Path.{sym, ap, _∙_}
-use Rattle.odu0map.specs.Mapping.{startMeaning}
-use Rattle.odu0map.proofs.Laws.{starts-ready}
+use Rattle.program_map.specs.Frames.{startMeaning}
+use Rattle.program_map.proofs.Laws.{starts-ready}
 use borrow.Author.Needs.{needs}
 use Rattle.odu0map.proofs.main.Statement.{statement}
 use Rattle.odu0map.proofs.main.Tie as tie

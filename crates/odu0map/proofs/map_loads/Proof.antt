@@ -59,10 +59,7 @@ part-make-frame-end : tie.Need-part-make-frame-end Inv-loop μ-loop
 part-make-frame-end c = search needs
 
 make-frame-requires : tie.Need-make-frame-requires Inv-loop μ-loop
-make-frame-requires c κs =
-    let g = c .before .before .before .before .before .before .before .before .args in
-    let l = c .before .before .before .before .before .loop in
-    mapping-asks (g .rate) (g .first) (g .client .now) (l .mapper) (l .at) (l .number) (l .frames) (l .inv) (c .before .before .before .before .loop-test .taken) (c .before .before .if1 .left)
+make-frame-requires c κs = search needs
 
 add-number : tie.Need-add-number Inv-loop μ-loop
 add-number c = search needs
@@ -75,7 +72,8 @@ loop-again c =
     let g = c .before .before .before .before .before .before .before .before .before .before .before .args in
     let l = c .before .before .before .before .before .before .before .before .loop in
     let k = c .before .before .make-frame in
-    mapping-next (g .rate) (g .first) (g .client .now) (l .mapper) (l .at) (l .number) (l .frames) (l .inv) (c .before .before .before .before .before .before .before .loop-test .taken) (omega (arith, c .before .before .before .before .before .if1 .left)) (k .result) (k .last .1 .1 .1 .0) (k .ensures) (k .kept .1 .1 .1 .0)
+    let asks = mapping-asks (g .rate) (g .first) (g .client .now) (l .mapper) (l .at) (l .number) (l .frames) (l .inv) (c .before .before .before .before .before .before .before .loop-test .taken) (c .before .before .before .before .before .if1 .left) in
+    mapping-next (g .rate) (g .first) (g .client .now) (l .mapper) (l .at) (l .number) (l .frames) (l .inv) (c .before .before .before .before .before .before .before .loop-test .taken) (omega (arith, c .before .before .before .before .before .if1 .left)) (k .result) (k .last .1 .1 .1 .0) (k .ensures (asks .0) (asks .1) (asks .2)) (k .kept .1 .1 .1 .0)
 
 same-length-2 : tie.Need-same-length-2 Inv-loop μ-loop
 same-length-2 c = search needs

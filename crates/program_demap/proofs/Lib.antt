@@ -1,0 +1,2 @@
+-- The arguments behind a frame to the sink. Assumes nothing.
+mod Laws

@@ -1,0 +1,2 @@
+-- A frame to the sink, as odu0demap takes it. Assumes nothing.
+pub mod Frames

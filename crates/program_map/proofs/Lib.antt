@@ -1,0 +1,2 @@
+-- What the program cites of a mapper. Assumes nothing.
+pub mod Laws
