@@ -10,6 +10,7 @@ ports that check the payload type as tests/types.txt has them, and crates.svg th
 as crates.txt lists them. With --check nothing is written; the exit status is 1 where a stored
 picture is not the one drawn.
 """
+import functools
 import itertools
 import pathlib
 import re
@@ -491,6 +492,7 @@ def read_crates():
 def reduced(rests):
     """Of what each rests on, that which it does not rest on by way of another."""
 
+    @functools.cache
     def below(name):
         return {name}.union(*(below(other) for other in rests[name]))
 
@@ -532,6 +534,20 @@ def spread(row):
     return {name: (i + 0.5) / len(row) for i, name in enumerate(row)}
 
 
+def best_turn(row, cost):
+    """The cheapest order of a row; of a long one the best that moving one at a time leads to."""
+    if len(row) < 7:
+        return list(min(itertools.permutations(row), key=cost))
+    best, found = row, cost(row)
+    while True:
+        rests = [(name, [n for n in best if n != name]) for name in best]
+        turns = [rest[:i] + [name] + rest[i:] for name, rest in rests for i in range(len(best))]
+        turn = min(turns, key=cost)
+        if cost(turn) >= found:
+            return best
+        best, found = turn, cost(turn)
+
+
 def ordered(rows, arrows):
     """The rows, each in turn put in the order in which its arrows cross least and are shortest."""
     steps = [step for arrow in arrows for step in zip(arrow, arrow[1:])]
@@ -552,7 +568,7 @@ def ordered(rows, arrows):
                 )
                 return crossed, round(sum(abs(x[a] - x[b]) for a, b in above + below), 6)
 
-            rows[i] = list(min(itertools.permutations(row), key=cost))
+            rows[i] = best_turn(row, cost)
     return rows
 
 

@@ -24,7 +24,8 @@ use Rattle.odu0demap.specs.declared.Told.the-variants.{Nothing, Last}
 use Rattle.odu0demap.specs.declared.Run.{Run}
 use Rattle.odu0demap.specs.declared.Next.{Next}
 use Rattle.odu0demap.specs.declared.Next.the-variants.{From, End}
-use Rattle.program_demap.specs.Frames.{settingsOf, control, standingOf, newDemapper, demapperAfter, handedBytes, isQuiet, quiet, Takes}
+use Rattle.program_demap.specs.Frames.{settingsOf, control, standingOf, newDemapper, demapperAfter, handedBytes, Takes}
+use Rattle.program_told.specs.Told.{isQuiet, quiet}
 use Rattle.odu0demap.specs.Demapping.{frameAt, framesIn, demapperOver, handedOver, allQuiet, Telling, Runs, TakesFrames, Goes, GoesOn, DemapsAll}
 
 -- one frame more

@@ -12,7 +12,8 @@ use Rattle.gmp_standing.specs.Standing.{standingMeaning}
 use Rattle.gmp_sink.specs.Sink.{mendedIn}
 use Rattle.program_demap.specs.declared.Wanted.{Wanted}
 use Rattle.program_demap.specs.declared.Demapper.{Demapper}
-use Rattle.program_demap.specs.Frames.{settingsOf, control, standingOf, handedBytes, newDemapper, demapperAfter, quiet}
+use Rattle.program_demap.specs.Frames.{settingsOf, control, standingOf, handedBytes, newDemapper, demapperAfter}
+use Rattle.program_told.specs.Told.{quiet}
 use Rattle.program_stream.specs.Gather.{heldBytes}
 use Rattle.odu0demap.specs.declared.Run.{Run}
 use Rattle.odu0demap.specs.declared.Told.{Told}

@@ -281,7 +281,7 @@ fn demap_run(wanted: Wanted, first: Demapper, frames: &[u8], out: &mut [u8]) -> 
         let after = taken.after;
         number += 1;
         handed += taken.handed as usize;
-        if program_demap::is_quiet(demapper, taken) {
+        if program_told::is_quiet(demapper, taken) {
             demapper = after;
         } else {
             return Run {
@@ -316,8 +316,8 @@ fn show_told(is_written: bool, frame_number: u64, run: Run)
     show_change(frame_number, before, standing, mended);
     show_type(
         frame_number,
-        program_demap::accepted_type(before),
-        program_demap::accepted_type(after),
+        program_told::accepted_type(before),
+        program_told::accepted_type(after),
     );
 }
 
@@ -325,7 +325,7 @@ fn show_told(is_written: bool, frame_number: u64, run: Run)
 // new to say: by one write, since at the usual rate nearly every frame has such a line. The longest
 // has 6, 20, 2, 8, 1, 10 and 8 bytes for its seven parts, 55 in all.
 fn show_change(frame_number: u64, before: Demapper, standing: Standing, mended: bool) {
-    if program_demap::is_silent(before, standing, mended) {
+    if program_told::is_silent(before, standing, mended) {
         return;
     }
     let mut line = [0u8; 64];
@@ -401,7 +401,7 @@ fn put(line: &mut [u8], at: usize, text: &[u8]) -> usize
 
 // Says the accepted type where there is one, and it is another than before the frame.
 fn show_type(frame_number: u64, before: AcceptedType, after: AcceptedType) {
-    if program_demap::is_same_type(before, after) {
+    if program_told::is_same_type(before, after) {
         return;
     }
     let AcceptedType::PayloadType(accepted) = after else {

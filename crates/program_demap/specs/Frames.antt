@@ -1,19 +1,13 @@
 -- What a frame comes to: the paper's sink with the tally of its port, at OPU0's size, with mending
 -- or without, and with the type check or without. Assumes nothing.
 use mathlib.Core.Path.{_≡_}
-use mathlib.Core.Bool.{Bool, true, false, cond, _&&_}
 use mathlib.Core.List.{List}
 use Prim.Native.Nat.{ℕ, _+_, _%_}
-use lib.Dec.{eqb}
 use lib.ListN.{length, take}
 use Rattle.io.specs.Counts.{Counts}
 use Rattle.gmp_settings.specs.declared.Settings.{Settings}
 use Rattle.gmp_settings.specs.Settings.{withMending, withTypeCheck, opu0}
-use Rattle.gmp_standing.specs.declared.Count.{Count}
-use Rattle.gmp_standing.specs.declared.Count.the-variants.{Known, Unknown}
 use Rattle.gmp_standing.specs.Standing.{Finding, standingMeaning, standingNumber}
-use Rattle.gmp_payload_type.specs.declared.AcceptedType.{AcceptedType}
-use Rattle.gmp_payload_type.specs.declared.AcceptedType.the-variants.{PayloadType, NoType}
 use Rattle.gmp_payload_type.specs.declared.Expected.{Expected}
 use Rattle.gmp_frame.specs.declared.Control.{Control}
 use Rattle.gmp_frame.specs.Frame.{controlOf}
@@ -62,29 +56,6 @@ demapperAfter w d frame =
       multiframe = numberAfter (d .multiframe);
     }
 
--- two counts are the same, known or not
-abbrev pub sameCount : Count → Count → Bool
-sameCount (Known n) (Known m) = eqb n m
-sameCount (Known n) Unknown = false
-sameCount Unknown (Known m) = false
-sameCount Unknown Unknown = true
-
--- a standing is that of the frame before: the same name, and the same count found, which the sink's
--- state has kept
-abbrev pub isSame : Demapper → Finding → Bool
-isSame d f = eqb (standingNumber (f .name)) (d .last) && sameCount (f .count) (d .state .count)
-
--- nothing is said of a frame that was not mended and has the standing of the frame before
-abbrev pub isSilent : Demapper → Finding → Bool → Bool
-isSilent d f mended = cond mended false (isSame d f)
-
--- two accepted types are the same, or there is none both times
-abbrev pub sameType : AcceptedType → AcceptedType → Bool
-sameType (PayloadType n) (PayloadType m) = eqb n m
-sameType (PayloadType n) NoType = false
-sameType NoType (PayloadType m) = false
-sameType NoType NoType = true
-
 -- A frame taken: its standing, whether a bit was mended, the demapper after it, and the client
 -- bytes at the start of the output buffer, with their number.
 pub record Takes (w : Wanted) (d : Demapper) (frame : List ℕ) (r : Taken) (out : List ℕ) : Type 0 where
@@ -94,10 +65,3 @@ pub record Takes (w : Wanted) (d : Demapper) (frame : List ℕ) (r : Taken) (out
   pub length-is : r .handed ≡ length (handedBytes w d frame)
   pub within : Counts (r .handed) out
   pub bytes : take (r .handed) out ≡ handedBytes w d frame
-
--- nothing is to be told of a frame: it is silent, and the accepted type stays
-abbrev pub isQuiet : Demapper → Finding → Bool → Demapper → Bool
-isQuiet d f mended after = isSilent d f mended && sameType (d .state .types .accepted) (after .state .types .accepted)
-
-unfoldable pub quiet : Wanted → Demapper → List ℕ → Bool
-quiet w d frame = isQuiet d (standingOf w d frame) (mendedIn (settingsOf w) (control frame)) (demapperAfter w d frame)

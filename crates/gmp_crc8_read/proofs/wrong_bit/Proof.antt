@@ -1,5 +1,5 @@
--- `gmp_crc8_read::wrong_bit` meets its contract: the search, from the last bit to the first. Assumes
--- nothing.
+-- `gmp_crc8_read::wrong_bit` meets its contract: the search, from the last bit to the first.
+-- Assumes nothing.
 use mathlib.Core.Path.{_∙_, ap}
 use mathlib.Core.Bool.{cond}
 use Prim.Native.Nat.{ℕ, _-_}

@@ -1,10 +1,10 @@
--- `program_demap::is_quiet` meets its contract. Assumes nothing.
+-- `program_told::is_quiet` meets its contract. Assumes nothing.
 use mathlib.Core.Path.{_∙_, sym, ap, ap₂}
 use mathlib.Core.Bool.{Bool, _&&_}
-use Rattle.program_demap.specs.Frames.{sameType}
+use Rattle.program_told.specs.Told.{sameType}
 use borrow.Author.Needs.{needs}
-use Rattle.program_demap.proofs.is_quiet.Statement.{statement}
-use Rattle.program_demap.proofs.is_quiet.Tie as tie
+use Rattle.program_told.proofs.is_quiet.Statement.{statement}
+use Rattle.program_told.proofs.is_quiet.Tie as tie
 
 is-silent-requires : tie.Need-is-silent-requires
 is-silent-requires c κs = search needs

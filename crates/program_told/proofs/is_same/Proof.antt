@@ -1,10 +1,10 @@
--- `program_demap::is_same` meets its contract. Assumes nothing.
+-- `program_told::is_same` meets its contract. Assumes nothing.
 use native.Mathlib.Omega.{arith}
 use borrow.Author.Needs.{needs}
 use borrow.Author.Tests.{eq-eqb, ne-eqb}
 use Rattle.gmp_standing.specs.Standing.{standingMeaning, standingNumber}
-use Rattle.program_demap.proofs.is_same.Statement.{statement}
-use Rattle.program_demap.proofs.is_same.Tie as tie
+use Rattle.program_told.proofs.is_same.Statement.{statement}
+use Rattle.program_told.proofs.is_same.Tie as tie
 
 standing-number-requires : tie.Need-standing-number-requires
 standing-number-requires c κs = search needs

@@ -1,11 +1,11 @@
--- `program_demap::is_silent` meets its contract. Assumes nothing.
+-- `program_told::is_silent` meets its contract. Assumes nothing.
 use mathlib.Core.Path.{_∙_, sym, ap}
 use mathlib.Core.Bool.{Bool, false, cond}
 use borrow.Author.Needs.{needs}
 use Rattle.gmp_standing.specs.Standing.{standingMeaning}
-use Rattle.program_demap.specs.Frames.{isSame}
-use Rattle.program_demap.proofs.is_silent.Statement.{statement}
-use Rattle.program_demap.proofs.is_silent.Tie as tie
+use Rattle.program_told.specs.Told.{isSame}
+use Rattle.program_told.proofs.is_silent.Statement.{statement}
+use Rattle.program_told.proofs.is_silent.Tie as tie
 
 returns : tie.Need-returns
 returns c =

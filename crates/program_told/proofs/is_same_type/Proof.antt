@@ -1,7 +1,7 @@
--- `program_demap::is_same_type` meets its contract. Assumes nothing.
+-- `program_told::is_same_type` meets its contract. Assumes nothing.
 use borrow.Author.Needs.{needs}
-use Rattle.program_demap.proofs.is_same_type.Statement.{statement}
-use Rattle.program_demap.proofs.is_same_type.Tie as tie
+use Rattle.program_told.proofs.is_same_type.Statement.{statement}
+use Rattle.program_told.proofs.is_same_type.Tie as tie
 
 enum-known-one : tie.Need-enum-known-one
 enum-known-one c = search needs
