@@ -529,9 +529,14 @@ def layers(rests):
     return rows, arrows
 
 
+def room(row):
+    """What a row takes, in boxes: an arrow that passes takes less than a crate."""
+    return sum(1 if isinstance(name, str) else 0.3 for name in row)
+
+
 def spread(row):
     """The places in a row, from 0 at the left to 1 at the right."""
-    return {name: (i + 0.5) / len(row) for i, name in enumerate(row)}
+    return {n: (room(row[:i]) + room([n]) / 2) / room(row) for i, n in enumerate(row)}
 
 
 def best_turn(row, cost):
@@ -578,8 +583,8 @@ def band(p, top, right, group, rests, others):
     rows, arrows = layers(rests)
     rows = ordered(rows, arrows)
     left, high = 10, 36
-    longest = max(map(len, rows))
-    wide = min((right - left - 12) // longest - 12, 190)
+    longest = max(map(room, rows))
+    wide = min(int((right - left - 12) / longest) - 12, 190)
     slots = min(right - left - 12, longest * (wide + 30))
     middle = (left + right) / 2
     x = {n: round(middle + slots * (at - 0.5)) for row in rows for n, at in spread(row).items()}

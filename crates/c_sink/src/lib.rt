@@ -3,9 +3,6 @@
 use c_settings::SettingsNumbers;
 use c_sink_numbers::SinkNumbers;
 use c_sink_numbers::SinkReply;
-use card_tally::Tallies;
-use card_tally::Tally;
-use card_tally::Total;
 use gmp_control::Remembered;
 use gmp_payload_type::AcceptedType;
 use gmp_payload_type::Expected;
@@ -17,11 +14,9 @@ use gmp_sink::SinkResult;
 use gmp_sink::SinkState;
 use gmp_standing::Count;
 ghost use mathlib.Core.Path.{_≡_};
-ghost use Prim.Native.Nat.{_<_};
 ghost use Rattle.gmp_sink.specs.Sink.{newSink, answerMeaning};
-ghost use Rattle.card_tally.specs.Ports.{totalOf};
 ghost use Rattle.c_settings.specs.Numbers.{settingsFrom};
-ghost use Rattle.c_sink_numbers.specs.Numbers.{countFrom, countFlag, countValue, wordFrom, wordFlag, wordValue, acceptedFrom, acceptedFlag, acceptedType, seenFrom, seenTimes, seenType, stateFrom, stateNumbers, flagOf, sinkReplyBy, tallyAt, talliesFrom, talliesNumbers, SinkCallPromise};
+ghost use Rattle.c_sink_numbers.specs.Numbers.{countFrom, countFlag, countValue, wordFrom, wordFlag, wordValue, acceptedFrom, acceptedFlag, acceptedType, seenFrom, seenTimes, seenType, stateFrom, stateNumbers, flagOf, sinkReplyBy, SinkCallPromise};
 
 // A flag, 0 for none, beside the number.
 struct Flagged {
@@ -54,19 +49,12 @@ pub extern "C" fn odu0_sink_call(
 ) -> SinkReply
     ensures { λ r. ⌜ SinkCallPromise (settingsFrom settings) state expected (now (frame .entry)) (now (out .entry)) port (now (tallies .entry)) r (now (out .exit)) (now (tallies .exit)) ⌝ }
 {
-    let before = tallies_from(*tallies);
+    let before = c_tally::tallies_from(*tallies);
     let card = c_settings::settings_from(settings);
     let called = card_sink::lend_call(card, state_from(state), expected, frame, out, port, before);
-    *tallies = tallies_numbers(called.tallies);
+    *tallies = c_tally::tallies_numbers(called.tallies);
     let result = called.result;
     sink_reply(state, result)
-}
-
-#[no_mangle]
-pub extern "C" fn odu0_card_total(tallies: &[u32; 24]) -> Total
-    ensures { λ r. ⌜ r ≡ totalOf (talliesFrom (now (tallies .entry))) ⌝ }
-{
-    card_tally::card_total(tallies_from(*tallies))
 }
 
 // A refused call returns the very numbers that it was given.
@@ -109,75 +97,6 @@ fn flag(holds: bool) -> u32
         return 1;
     }
     0
-}
-
-// The tallies that 24 numbers stand for, three for each port in the order of the ports, and the 24
-// numbers of tallies.
-fn tallies_from(numbers: [u32; 24]) -> Tallies
-    ensures { λ r. ⌜ r ≡ talliesFrom numbers ⌝ }
-{
-    let one = tally_at(numbers, 0);
-    let two = tally_at(numbers, 3);
-    let three = tally_at(numbers, 6);
-    let four = tally_at(numbers, 9);
-    let five = tally_at(numbers, 12);
-    let six = tally_at(numbers, 15);
-    let seven = tally_at(numbers, 18);
-    let eight = tally_at(numbers, 21);
-    Tallies {
-        ports: [one, two, three, four, five, six, seven, eight],
-    }
-}
-
-fn tallies_numbers(tallies: Tallies) -> [u32; 24]
-    ensures { λ r. ⌜ r ≡ talliesNumbers tallies ⌝ }
-{
-    let one = tallies.ports[0];
-    let two = tallies.ports[1];
-    let three = tallies.ports[2];
-    let four = tallies.ports[3];
-    let five = tallies.ports[4];
-    let six = tallies.ports[5];
-    let seven = tallies.ports[6];
-    let eight = tallies.ports[7];
-    [
-        one.frames,
-        one.bad,
-        one.bytes,
-        two.frames,
-        two.bad,
-        two.bytes,
-        three.frames,
-        three.bad,
-        three.bytes,
-        four.frames,
-        four.bad,
-        four.bytes,
-        five.frames,
-        five.bad,
-        five.bytes,
-        six.frames,
-        six.bad,
-        six.bytes,
-        seven.frames,
-        seven.bad,
-        seven.bytes,
-        eight.frames,
-        eight.bad,
-        eight.bytes,
-    ]
-}
-
-// The tally that three numbers in a row stand for.
-fn tally_at(numbers: [u32; 24], place: usize) -> Tally
-    requires { ⌜ place < 22 ⌝ }
-    ensures { λ r. ⌜ r ≡ tallyAt numbers place ⌝ }
-{
-    Tally {
-        frames: numbers[place],
-        bad: numbers[place + 1],
-        bytes: numbers[place + 2],
-    }
 }
 
 // The sink's state that eight numbers stand for, and the eight numbers of a state.

@@ -6,9 +6,6 @@
 // at the end the tally. Its frames are those of one port, port 1.
 use card_tally::Tally;
 use gmp_payload_type::AcceptedType;
-use gmp_standing::Count;
-use gmp_standing::NAME_LENGTHS;
-use gmp_standing::NAMES;
 use gmp_standing::Standing;
 use libc::STDERR_FILENO;
 use libc::STDIN_FILENO;
@@ -21,7 +18,6 @@ ghost use mathlib.Core.Path.{_≡_};
 ghost use mathlib.Core.Bool.{true};
 ghost use Prim.Native.Nat.{_≤_, _<_};
 ghost use lib.ListN.{length};
-ghost use Rattle.io.specs.Counts.{Counts};
 ghost use Rattle.program_stream.specs.Gather.{heldBytes, Has};
 ghost use Rattle.odu0demap.specs.Demapping.{isWord, framesIn, handedOver, Goes, GoesOn, DemapsAll, Runs};
 
@@ -329,74 +325,8 @@ fn show_change(frame_number: u64, before: Demapper, standing: Standing, mended: 
         return;
     }
     let mut line = [0u8; 64];
-    let length = put_change(&mut line, frame_number, standing, mended);
+    let length = program_line::put_change(&mut line, frame_number, standing, mended);
     io::write_all(STDERR_FILENO, &line[..length]);
-}
-
-// Makes that line, and gives its length.
-fn put_change(line: &mut [u8], frame_number: u64, standing: Standing, was_mended: bool) -> usize
-    ensures { λ r. ⌜ Counts r (now (line .exit)) ⌝ }
-{
-    let a = put(line, 0, b"frame ");
-    let b = put_number(line, a, frame_number);
-    let c = put(line, b, b": ");
-    let d = put_name(line, c, standing);
-    let e = put_count(line, d, gmp_standing::found_count(standing));
-    if was_mended {
-        return put(line, e, b" mended\n");
-    }
-    put(line, e, b"\n")
-}
-
-// Puts the name of a standing behind the first `at` bytes of a line, and gives the length then.
-fn put_name(line: &mut [u8], at: usize, standing: Standing) -> usize
-    ensures { λ r. ⌜ Counts r (now (line .exit)) ⌝ }
-{
-    let place = gmp_standing::standing_number(standing) as usize - 1;
-    let names: &[u8] = &NAMES;
-    let start = 8 * place;
-    let end = start + NAME_LENGTHS[place];
-    put(line, at, &names[start..end])
-}
-
-// Puts a space and the count found there, or "-" where there is none.
-fn put_count(line: &mut [u8], at: usize, count: Count) -> usize
-    ensures { λ r. ⌜ Counts r (now (line .exit)) ⌝ }
-{
-    let Count::Known(n) = count else {
-        return put(line, at, b" -");
-    };
-    let a = put(line, at, b" ");
-    put_number(line, a, n as u64)
-}
-
-// Puts a number there in decimal.
-fn put_number(line: &mut [u8], at: usize, n: u64) -> usize
-    ensures { λ r. ⌜ Counts r (now (line .exit)) ⌝ }
-{
-    let mut digits = [0u8; 20];
-    let k = io::decimal(n, &mut digits);
-    put(line, at, &digits[..k])
-}
-
-// Puts these bytes there, as many as have room.
-fn put(line: &mut [u8], at: usize, text: &[u8]) -> usize
-    ensures { λ r. ⌜ Counts r (now (line .exit)) ⌝ }
-{
-    let mut end = at;
-    if line.len() < at {
-        end = line.len();
-    }
-    let mut i = 0;
-    while i < text.len() {
-        if line.len() <= end {
-            return end;
-        }
-        line[end] = text[i];
-        end += 1;
-        i += 1;
-    }
-    end
 }
 
 // Says the accepted type where there is one, and it is another than before the frame.

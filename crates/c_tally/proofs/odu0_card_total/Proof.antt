@@ -1,9 +1,9 @@
--- `c_sink::odu0_card_total` meets its contract. Assumes nothing.
+-- `c_tally::odu0_card_total` meets its contract. Assumes nothing.
 use mathlib.Core.Path.{_∙_, ap}
 use borrow.Author.Needs.{needs}
 use Rattle.card_tally.specs.Ports.{totalOf}
-use Rattle.c_sink.proofs.odu0_card_total.Statement.{statement}
-use Rattle.c_sink.proofs.odu0_card_total.Tie as tie
+use Rattle.c_tally.proofs.odu0_card_total.Statement.{statement}
+use Rattle.c_tally.proofs.odu0_card_total.Tie as tie
 
 tallies-from-requires : tie.Need-tallies-from-requires
 tallies-from-requires c κs = search needs

@@ -1,9 +1,9 @@
--- `odu0demap::put_name` meets its contract. Assumes nothing.
+-- `program_line::put_name` meets its contract. Assumes nothing.
 use native.Mathlib.Omega.{arith}
 use Rattle.gmp_standing.proofs.Names.{named}
 use borrow.Author.Needs.{needs}
-use Rattle.odu0demap.proofs.put_name.Statement.{statement}
-use Rattle.odu0demap.proofs.put_name.Tie as tie
+use Rattle.program_line.proofs.put_name.Statement.{statement}
+use Rattle.program_line.proofs.put_name.Tie as tie
 
 standing-number-requires : tie.Need-standing-number-requires
 standing-number-requires c κs = search needs

@@ -1,7 +1,7 @@
--- `c_sink::tallies_from` meets its contract. Assumes nothing.
+-- `c_tally::tallies_from` meets its contract. Assumes nothing.
 use borrow.Author.Needs.{needs}
-use Rattle.c_sink.proofs.tallies_from.Statement.{statement}
-use Rattle.c_sink.proofs.tallies_from.Tie as tie
+use Rattle.c_tally.proofs.tallies_from.Statement.{statement}
+use Rattle.c_tally.proofs.tallies_from.Tie as tie
 
 tally-at-requires : tie.Need-tally-at-requires
 tally-at-requires c κs = search needs

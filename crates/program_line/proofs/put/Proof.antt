@@ -1,4 +1,4 @@
--- `odu0demap::put` meets its contract. Assumes nothing.
+-- `program_line::put` meets its contract. Assumes nothing.
 use mathlib.Core.Path.{_≡_, sym, _∙_}
 use mathlib.Core.Logic.{⊎-elim}
 use Prim.Native.Nat.{_-_, _≤_}
@@ -6,8 +6,8 @@ use native.Mathlib.Omega.{arith}
 use lib.ListN.{length, getD, length-set}
 use lib.Seq.{length-take-le}
 use borrow.Author.Needs.{needs}
-use Rattle.odu0demap.proofs.put.Statement.{statement}
-use Rattle.odu0demap.proofs.put.Tie as tie
+use Rattle.program_line.proofs.put.Statement.{statement}
+use Rattle.program_line.proofs.put.Tie as tie
 
 abbrev Inv-loop : tie.InvT-loop
 Inv-loop line₀ at text end₀ i₀ line end i = (end ≤ length line) × (length line ≡ length line₀) × (i ≤ length text)
