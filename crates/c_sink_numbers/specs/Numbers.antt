@@ -24,7 +24,7 @@ use Rattle.card_tally.specs.declared.Tallies.{Tallies}
 use Rattle.card_tally.specs.Ports.{tallyOf}
 use Rattle.gmp_sink.specs.declared.SinkState.{SinkState}
 use Rattle.gmp_sink.specs.Sink.{sinkAnswer, sinkState, sinkMended, sinkHanded, sinkOut}
-use Rattle.card_count.specs.Card.{talliesAfter}
+use Rattle.card_promise.specs.Card.{talliesAfter}
 use Rattle.c_sink_numbers.specs.declared.SinkNumbers.{SinkNumbers}
 use Rattle.c_sink_numbers.specs.declared.SinkReply.{SinkReply}
 

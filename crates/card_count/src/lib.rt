@@ -10,7 +10,7 @@ use gmp_standing::Standing;
 ghost use mathlib.Core.Path.{_≡_};
 ghost use Rattle.gmp_standing.specs.Standing.{standingMeaning};
 ghost use Rattle.gmp_sink.specs.Sink.{answerMeaning};
-ghost use Rattle.card_count.specs.Card.{badFrames, talliesBy, CallPromise, MendedIsGood};
+ghost use Rattle.card_promise.specs.Card.{badFrames, talliesBy, CallPromise};
 
 // What a call returns, with the tallies after it.
 pub struct Counted {
@@ -37,11 +37,6 @@ pub fn count_call(
         tallies: count_answer(tallies, port, answer, result.handed),
     }
 }
-
-// A mended frame is no BADCHECK frame, in its standing or in the tallies.
-pub fn mended_is_good()
-    ensures { λ _. ⌜ MendedIsGood ⌝ }
-{}
 
 // The tallies after an answer to a call of this port: a refused call leaves them.
 fn count_answer(tallies: Tallies, port: u32, answer: SinkAnswer, handed: u32) -> Tallies

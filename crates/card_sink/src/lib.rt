@@ -5,7 +5,7 @@ use gmp_payload_type::Expected;
 use gmp_settings::Settings;
 use gmp_sink::SinkResult;
 use gmp_sink::SinkState;
-ghost use Rattle.card_count.specs.Card.{CallPromise};
+ghost use Rattle.card_promise.specs.Card.{CallPromise};
 
 // One call of the sink of a port. The tallies are changed where the caller keeps them: by an
 // accepted call only, and then in the numbers of its own port only.

@@ -4,6 +4,5 @@ pub mod Along
 pub mod Types
 pub mod Claims
 mod Tallied
-mod Observed
 mod Flagged
 mod Swapped

@@ -16,7 +16,7 @@ use Rattle.card_tally.specs.Ports.{tallyOf, counted, OfCard}
 use Rattle.card_tally.proofs.Laws.{added-nothing, added-twice, added-32-bits}
 use Rattle.card_tally.proofs.Ports.{own-port-only, total-same}
 use Rattle.gmp_sink.proofs.Laws.{answer-accepted, answer-refused, accepted-port}
-use Rattle.card_count.specs.Card.{talliesBy, talliesAfter}
+use Rattle.card_promise.specs.Card.{talliesBy, talliesAfter}
 use Rattle.claim_recovery.specs.Runs.{SinkStep, sinkTakes, answerOf, handedOf}
 use Rattle.claim_recovery.specs.Tallied.{talliesEnd, countsOn, takenOn, badIn, badFramesOf, bytesOf, summed, TallySums}
 

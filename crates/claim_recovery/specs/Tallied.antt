@@ -14,7 +14,7 @@ use Rattle.card_tally.specs.declared.Tally.{Tally}
 use Rattle.card_tally.specs.declared.Tallies.{Tallies}
 use Rattle.card_tally.specs.Tally.{added}
 use Rattle.card_tally.specs.Ports.{tallyOf, totalBy, totalOf, OfCard}
-use Rattle.card_count.specs.Card.{badFrames, talliesAfter}
+use Rattle.card_promise.specs.Card.{badFrames, talliesAfter}
 use Rattle.claim_recovery.specs.Runs.{SinkStep, sinkTakes, answerOf, handedOf}
 
 -- The tallies after these calls, from the tallies y. They are calls of any number of sinks on any

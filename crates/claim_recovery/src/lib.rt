@@ -4,7 +4,6 @@ ghost use Rattle.claim_recovery.specs.Demand.{Demand3};
 ghost use Rattle.claim_recovery.specs.Mended.{CostsNothing, SinksOwn};
 ghost use Rattle.claim_recovery.specs.Swapped.{OnlyExpectedType};
 ghost use Rattle.claim_recovery.specs.Tallied.{TallySums};
-ghost use Rattle.claim_recovery.specs.Observed.{AsDefined};
 
 // Two unharmed frames find the count from any state, and with it the bytes. Where the payload type
 // is checked, and each call is told the frame's own number and the source's type as the expected
@@ -38,9 +37,4 @@ pub fn only_expected_type()
 // the card's total is the sum of the eight.
 pub fn tally_sums()
     ensures { λ _. ⌜ TallySums ⌝ }
-{}
-
-// Calls that keep their contracts, one after the other, make the runs that the claims are about.
-pub fn runs_as_defined()
-    ensures { λ _. ⌜ AsDefined ⌝ }
 {}

@@ -30,7 +30,7 @@ use Rattle.gmp_payload_type.specs.Types.{judged, typesAfter, gateOpen}
 use Rattle.gmp_source.specs.Source.{startRefusal, newSource, sourceRefusal, controlBytes, written, sourceState, sourceFrame}
 use Rattle.card_tally.specs.Tally.{added}
 use Rattle.card_tally.specs.Ports.{counted, sumTo, totalOf}
-use Rattle.card_count.specs.Card.{talliesAfter}
+use Rattle.card_promise.specs.Card.{talliesAfter}
 use Rattle.gmp_sink.specs.Sink.{newSink, sinkRefusal, handed, standingAfter, stateAfter, sinkAnswer, sinkState, sinkHanded, sinkOut, released}
 use Rattle.claim_recovery.specs.Runs.{Nth, SourceCall, SinkCall, SourceStep, SinkStep, sourceSteps, sinkSteps, sinkEnd, countOf, answerOf}
 use Rattle.claim_recovery.specs.Tallied.{talliesEnd}

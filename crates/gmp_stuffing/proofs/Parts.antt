@@ -8,9 +8,7 @@ use native.Mathlib.Omega.{arith}
 use lib.Dec.{ltb, leb}
 use borrow.Author.Tests.{ltb-true, leb-true}
 use Rattle.math.specs.Choice.{both-true}
-
-abbrev pub U : ℕ
-U = 1099511627776
+use Rattle.gmp_row.proofs.Rows.{U}
 
 -- the rows whose places are told so
 pub in-parts : {k : ℕ} → (leb 16 k && ltb k 131072) ≡ true → (16 ≤ k) × (k < 131072)

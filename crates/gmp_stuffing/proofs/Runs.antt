@@ -10,16 +10,14 @@ use native.Mathlib.Omega.{arith}
 use lib.Arith.{mod-mul}
 use lib.ListN.{length, getD, take, drop, set, length-append, length-drop, List·getD-append}
 use lib.Seq.{length-take-le, take-append-le, take-at, drop-at, getD-at, getD-append-add, split-at}
+use Rattle.gmp_row.proofs.Rows.{row-le}
 use Rattle.gmp_stuffing.specs.Copied.{copied}
 use Rattle.gmp_places.specs.Places.{placed, tabulate, chosen}
 use Rattle.gmp_stuffing.specs.Row.{rowBytes, rowClient}
 use Rattle.gmp_stuffing.proofs.Filled.{Filled, filled-none, filled-less, filled-store, filled-copy, filled-all}
 use Rattle.gmp_places.proofs.Steps.{Stuffing, Client, step, count-le, count-all, placed-client, placed-stuffing, tabulate-append, length-tabulate, chosen-append, length-chosen, tabulate-more}
 
--- a row's number is at most 3, and the row lies within the payload
-pub row-le : (r n : ℕ) → r < 4 → r * n ≤ 3 * n
-row-le r n h = let l : r ≤ 3 = omega arith in mul-le-mul-right n l
-
+-- a row lies within the payload
 pub row-within : (r k : ℕ) → r < 4 → r * k + k ≤ 4 * k
 row-within r k h = omega (arith, row-le r k h)
 

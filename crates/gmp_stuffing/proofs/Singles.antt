@@ -13,6 +13,10 @@ use Rattle.gmp_stuffing.specs.Row.{rowBytes}
 use Rattle.gmp_places.proofs.Steps.{Client, step, placed-client, placed-stuffing, length-tabulate}
 use Rattle.gmp_stuffing.proofs.Runs.{later, in-row, getD-tabulate}
 
+-- where the client bytes are not none, there is one
+pub some-byte : (n : ℕ) → (n ≡ 0 → ⊥) → 0 < n
+some-byte n none = omega arith
+
 -- of the first j, number n is there or not, and one more changes nothing but at j
 beyond : (l : List ℕ) (j n : ℕ) → j ≤ n → getD (take j l) n 0 ≡ 0
 beyond l j n h = List·getD-eq-default (take j l) 0 {n = n} (rw (length-take j l) (omega arith))

@@ -12,7 +12,8 @@ use mir.Val.{Fits}
 use Rattle.gmp_stuffing.specs.Copied.{copied}
 use Rattle.gmp_stuffing.specs.Row.{rowBytes, rowClient}
 use Rattle.gmp_places.proofs.Steps.{Stuffing, Client, step-client, step-stuffing, count-le}
-use Rattle.gmp_stuffing.proofs.Parts.{U, up-least, up-most, down-least, down-most}
+use Rattle.gmp_stuffing.proofs.Parts.{up-least, up-most, down-least, down-most}
+use Rattle.gmp_row.proofs.Rows.{U}
 use Rattle.gmp_stuffing.proofs.Runs.{row-within, row-count, row-rest, later, run-short, none-before, comes-after, stands, client-stands, place-run, place-zero, target-kept, take-run}
 use Rattle.gmp_stuffing.proofs.Filled.{Filled, filled-all}
 

@@ -3,6 +3,7 @@
 // between two stuffing bytes are copied as one run, and where they are no more, each goes to its
 // place in a cleared row. A place is told by a sum in small parts of a byte, so that one addition
 // leads from one to the next: there is no division for a byte. Other rows go byte by byte.
+use gmp_row::PARTS;
 ghost use mathlib.Core.Path.{_≡_};
 ghost use mathlib.Core.Bool.{_&&_};
 ghost use Prim.Native.Nat.{ℕ, _+_, _-_, _*_, _/_, _%_, _≤_, _<_};
@@ -10,30 +11,6 @@ ghost use lib.ListN.{length, replicate};
 ghost use lib.Dec.{ltb, leb};
 ghost use Rattle.gmp_stuffing.specs.Row.{rowFits, rowBytes, rowClient, rowPlaced, rowTaken};
 ghost use Rattle.gmp_stuffing.specs.Copied.{copied};
-
-// As many parts has a byte, 2^40: in rows below 2^17 bytes a place told in them lies in the right
-// byte.
-const PARTS: usize = 1099511627776;
-
-// The stuffing bytes of a row: how many come before the row, where the next one stands, be it in a
-// later row, and how far it is from one to the next, in parts; and the width of a block, which
-// holds any run and has room as long as the next stuffing byte stands below stop.
-struct RowRuns {
-    before: usize,
-    parts: usize,
-    hop: usize,
-    width: usize,
-    stop: usize,
-}
-
-// The client bytes of a row: the number of the first and that after the last, where the first
-// stands, be it in a later row, and how far it is from one to the next, in parts.
-struct RowSingles {
-    first: usize,
-    end: usize,
-    parts: usize,
-    hop: usize,
-}
 
 // Writes the payload bytes of row r (from 0) of a frame whose rows have as many of them as the
 // buffer is long. A row that is not one of four, a buffer of 2^32 bytes or more, or client bytes
@@ -44,7 +21,7 @@ pub fn place_row(part: &mut [u8], client: &[u8], r: usize)
     let k = part.len();
     let c = client.len();
     if row_fits(k, r, c) {
-        if c == 4 * k {
+        if c >= 4 * k {
             copy_run(part, 0, client, r * k, k);
         } else if goes_by_parts(k) {
             if 3 * c <= 8 * k {
@@ -69,7 +46,7 @@ pub fn take_row(part: &[u8], count: usize, r: usize, out: &mut [u8])
         return;
     }
     if row_fits(k, r, count) {
-        if count == 4 * k {
+        if count >= 4 * k {
             copy_run(out, r * k, part, 0, k);
         } else if goes_by_parts(k) {
             if 3 * count <= 8 * k {
@@ -118,7 +95,7 @@ fn place_runs(part: &mut [u8], client: &[u8], r: usize)
     ensures { λ _. ⌜ now (part .exit) ≡ rowBytes (length (now (part .entry))) r (now (client .entry)) ⌝ }
 {
     let k = part.len();
-    let row = row_runs(k, client.len(), r);
+    let row = gmp_row::row_runs(k, client.len(), r);
     let hop = row.hop;
     let width = row.width;
     let stop = row.stop;
@@ -153,7 +130,7 @@ fn take_runs(part: &[u8], count: usize, r: usize, out: &mut [u8])
     ensures { λ _. ⌜ now (out .exit) ≡ rowClient (length (now (part .entry))) r count (now (part .entry)) (now (out .entry)) ⌝ }
 {
     let k = part.len();
-    let row = row_runs(k, count, r);
+    let row = gmp_row::row_runs(k, count, r);
     let hop = row.hop;
     let width = row.width;
     let stop = row.stop;
@@ -178,59 +155,6 @@ fn take_runs(part: &[u8], count: usize, r: usize, out: &mut [u8])
     copy_run(out, taken, part, at, k - at);
 }
 
-// The stuffing bytes of row r. Stuffing byte t of a frame (from 0) stands at index t * 4k / d of
-// the payload, d being their number. In parts, counted from the row's start, that is rounded up, by
-// less than a d-th of a byte.
-fn row_runs(k: usize, c: usize, r: usize) -> RowRuns
-    requires { ⌜ (c < 4 * k) × (r < 4) × (k < 131072) ⌝ }
-    ensures { λ s. ⌜ (s .before ≡ (r * (4 * k - c) + 3) / 4)
-        × (s .parts ≡ (4 * s .before - r * (4 * k - c)) * (k * 1099511627776 / (4 * k - c) + 1))
-        × (s .hop ≡ 4 * (k * 1099511627776 / (4 * k - c) + 1))
-        × (16 ≤ s .width) × (s .width ≤ 32)
-        × ((x : ℕ) → x < s .stop → (c ≤ s .width * (4 * k - c)) × (2 * (x / 1099511627776) + 3 * s .width < 2 * k)) ⌝ }
-{
-    let d = 4 * k - c;
-    let quarter = k * PARTS / d + 1;
-    let width = width_for(c, d);
-    let before = (r * d + 3) / 4;
-    RowRuns {
-        before: before,
-        parts: (4 * before - r * d) * quarter,
-        hop: 4 * quarter,
-        width: width,
-        stop: blocks_stop(k, c, d, width),
-    }
-}
-
-// The width of a block: it holds every run where c is at most 32 * d, since a run has at most c / d
-// client bytes, rounded up.
-fn width_for(c: usize, d: usize) -> usize
-    requires { ⌜ (c < 4294967296) × (d < 4294967296) ⌝ }
-    ensures { λ w. ⌜ (16 ≤ w) × (w ≤ 32) × ((c ≤ 32 * d) → (c ≤ w * d)) ⌝ }
-{
-    if c <= 16 * d {
-        return 16;
-    }
-    32
-}
-
-// Up to where blocks have room, in parts: behind the next stuffing byte at least a block and a half
-// is left of the row. Nowhere, 0, where runs may be longer than a block, or the row has no more
-// than that.
-fn blocks_stop(k: usize, c: usize, d: usize, width: usize) -> usize
-    requires { ⌜ (k < 131072) × (d < 4294967296) × (width ≤ 32) ⌝ }
-    ensures { λ s. ⌜ ((x : ℕ) → x < s → (c ≤ 32 * d) × (2 * (x / 1099511627776) + 3 * width < 2 * k)) ⌝ }
-{
-    if c > 32 * d {
-        return 0;
-    }
-    let room = width + width / 2;
-    if k <= room {
-        return 0;
-    }
-    (k - room) * PARTS
-}
-
 // Clears the row and puts each of its client bytes to its place.
 fn place_singles(part: &mut [u8], client: &[u8], r: usize)
     requires { ⌜ (length (now client) < 4 * length (now part)) × (r < 4) × (length (now part) < 131072) × (16 ≤ length (now part)) ⌝ }
@@ -241,7 +165,7 @@ fn place_singles(part: &mut [u8], client: &[u8], r: usize)
     if client.len() == 0 {
         return;
     }
-    let row = row_singles(k, client.len(), r);
+    let row = gmp_row::row_singles(k, client.len(), r);
     let end = row.end;
     let hop = row.hop;
     let mut j = row.first;
@@ -261,7 +185,7 @@ fn take_singles(part: &[u8], count: usize, r: usize, out: &mut [u8])
     if count == 0 {
         return;
     }
-    let row = row_singles(part.len(), count, r);
+    let row = gmp_row::row_singles(part.len(), count, r);
     let end = row.end;
     let hop = row.hop;
     let mut j = row.first;
@@ -270,26 +194,6 @@ fn take_singles(part: &[u8], count: usize, r: usize, out: &mut [u8])
         out[j] = part[parts / PARTS];
         j += 1;
         parts += hop;
-    }
-}
-
-// The client bytes of row r. Client byte j of a frame (from 0) stands at index
-// ((j + 1) * 4k - 1) / c of the payload, the last one below (j + 1) * 4k / c. In parts, counted
-// from the row's start, that end is rounded down, by less than a c-th of a byte, and one part is
-// taken off.
-fn row_singles(k: usize, c: usize, r: usize) -> RowSingles
-    requires { ⌜ (c < 4 * k) × (r < 4) × (k < 131072) × (0 < c) ⌝ }
-    ensures { λ s. ⌜ (s .first ≡ r * c / 4) × (s .end ≡ (r * c + c) / 4)
-        × (s .parts + 1 ≡ (4 - r * c % 4) * (k * 1099511627776 / c))
-        × (s .hop ≡ 4 * (k * 1099511627776 / c)) ⌝ }
-{
-    let quarter = k * PARTS / c;
-    let quarters = r * c;
-    RowSingles {
-        first: quarters / 4,
-        end: (quarters + c) / 4,
-        parts: (4 - quarters % 4) * quarter - 1,
-        hop: 4 * quarter,
     }
 }
 

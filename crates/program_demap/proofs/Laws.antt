@@ -23,7 +23,7 @@ use Rattle.gmp_sink.specs.declared.SinkAnswer.the-variants.{Done, Refused}
 use Rattle.gmp_sink.specs.declared.SinkResult.{SinkResult}
 use Rattle.gmp_sink.specs.Sink.{sinkRefusal}
 use Rattle.gmp_sink.proofs.Laws.{answer-accepted, state-accepted, mended-accepted, handed-accepted, out-accepted, never-refused, done-says}
-use Rattle.card_count.specs.Card.{badFrames, talliesBy, talliesAfter, CallPromise}
+use Rattle.card_promise.specs.Card.{badFrames, talliesBy, talliesAfter, CallPromise}
 use Rattle.program_demap.specs.declared.Wanted.{Wanted}
 use Rattle.program_demap.specs.declared.Demapper.{Demapper}
 use Rattle.program_demap.specs.Frames.{settingsOf, expectedOf, standingOf, handedBytes, numberAfter, Takes}

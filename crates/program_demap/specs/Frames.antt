@@ -13,7 +13,7 @@ use Rattle.gmp_frame.specs.declared.Control.{Control}
 use Rattle.gmp_frame.specs.Frame.{controlOf}
 use Rattle.card_tally.specs.Tally.{added}
 use Rattle.gmp_sink.specs.Sink.{newSink, released, standingAfter, frameAfter, mendedIn}
-use Rattle.card_count.specs.Card.{badFrames}
+use Rattle.card_promise.specs.Card.{badFrames}
 use Rattle.program_demap.specs.declared.Wanted.{Wanted}
 use Rattle.program_demap.specs.declared.Demapper.{Demapper}
 use Rattle.program_demap.specs.declared.Taken.{Taken}

@@ -14,7 +14,7 @@ use Rattle.gmp_payload_type.specs.declared.Expected.{Expected}
 use Rattle.gmp_sink.specs.declared.SinkState.{SinkState}
 use Rattle.gmp_sink.specs.declared.SinkResult.{SinkResult}
 use Rattle.gmp_sink.specs.Sink.{answerMeaning, sinkAnswer, sinkMended, sinkHanded}
-use Rattle.card_count.specs.Card.{CallPromise}
+use Rattle.card_promise.specs.Card.{CallPromise}
 use Rattle.c_settings.specs.Numbers.{settingsFrom}
 use Rattle.c_sink_numbers.specs.declared.SinkNumbers.{SinkNumbers}
 use Rattle.c_sink_numbers.specs.declared.SinkReply.{SinkReply}

@@ -5,7 +5,7 @@ use borrow.Author.Needs.{needs}
 use Rattle.card_tally.specs.Ports.{counted}
 use Rattle.gmp_sink.specs.declared.SinkAnswer.{SinkAnswer}
 use Rattle.gmp_sink.specs.Sink.{answerMeaning}
-use Rattle.card_count.specs.Card.{talliesBy}
+use Rattle.card_promise.specs.Card.{talliesBy}
 use Rattle.card_count.proofs.count_answer.Statement.{statement}
 use Rattle.card_count.proofs.count_answer.Tie as tie
 

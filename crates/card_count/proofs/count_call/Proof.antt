@@ -5,7 +5,7 @@ use borrow.Author.Needs.{needs}
 use Rattle.refusals.specs.Table.{Answer}
 use Rattle.gmp_standing.specs.Standing.{Finding}
 use Rattle.gmp_sink.specs.Sink.{sinkAnswer}
-use Rattle.card_count.specs.Card.{talliesBy, talliesAfter}
+use Rattle.card_promise.specs.Card.{talliesBy, talliesAfter}
 use Rattle.card_count.proofs.count_call.Statement.{statement}
 use Rattle.card_count.proofs.count_call.Tie as tie
 

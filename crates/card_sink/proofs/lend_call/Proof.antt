@@ -50,7 +50,7 @@ use Rattle.gmp_sink.specs.declared.SinkState.{SinkState}
 use Rattle.card_tally.specs.declared.Tallies.{Tallies}
 use Rattle.gmp_sink.specs.declared.SinkResult.{SinkResult}
 use Rattle.card_count.specs.declared.Counted.{Counted}
-use Rattle.card_count.specs.Card.{CallPromise}
+use Rattle.card_promise.specs.Card.{CallPromise}
 use Rattle.gmp_settings.proofs.Settings as S
 use Rattle.gmp_settings.proofs.Settings.Laws as S′
 use Rattle.gmp_payload_type.proofs.Expected as E

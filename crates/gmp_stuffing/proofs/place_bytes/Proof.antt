@@ -6,7 +6,8 @@ use lib.ListN.{length, length-set}
 use borrow.Author.Needs.{needs}
 use Rattle.gmp_stuffing.specs.Row.{rowBytes}
 use Rattle.gmp_stuffing.proofs.Filled.{Filled, filled-all}
-use Rattle.gmp_stuffing.proofs.Runs.{row-le, in-frame, placed-none, place-byte, place-zero}
+use Rattle.gmp_row.proofs.Rows.{row-le}
+use Rattle.gmp_stuffing.proofs.Runs.{in-frame, placed-none, place-byte, place-zero}
 use Rattle.gmp_stuffing.proofs.Turns.{Step, step-row, next-client, next-stuffing, rest-word}
 use Rattle.gmp_stuffing.proofs.place_bytes.Statement.{statement}
 use Rattle.gmp_stuffing.proofs.place_bytes.Tie as tie

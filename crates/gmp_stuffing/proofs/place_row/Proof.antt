@@ -6,7 +6,8 @@ use lib.ListN.{length}
 use borrow.Author.Needs.{needs}
 use Rattle.gmp_stuffing.specs.Row.{rowFits, rowPlaced}
 use Rattle.gmp_stuffing.proofs.Parts.{in-parts}
-use Rattle.gmp_stuffing.proofs.Runs.{row-le, row-within, full-placed}
+use Rattle.gmp_row.proofs.Rows.{row-le}
+use Rattle.gmp_stuffing.proofs.Runs.{row-within, full-placed}
 use Rattle.gmp_stuffing.proofs.Laws.{fits-gives, placed-fits}
 use Rattle.gmp_stuffing.proofs.place_row.Statement.{statement}
 use Rattle.gmp_stuffing.proofs.place_row.Tie as tie
@@ -54,7 +55,7 @@ returns c =
     let g = c .before .before .before .before .before .before .before .before .before .args in
     let e = sym (c .before .before .before .before .before .before .row-fits .ensures) ∙ c .before .before .before .before .before .if1 .taken in
     let f = fits-gives _ _ _ e in
-    rw (c .before .before .copy-run .ensures, placed-fits _ _ (g .client .now) (g .part .now) refl e, full-placed (g .r) (g .client .now) (g .part .now) (c .before .before .before .before .if2 .taken) (f .1))
+    rw (c .before .before .copy-run .ensures, placed-fits _ _ (g .client .now) (g .part .now) refl e, full-placed (g .r) (g .client .now) (g .part .now) (omega (arith, f .2, c .before .before .before .before .if2 .taken)) (f .1))
 
 returns-2 : tie.Need-returns-2
 returns-2 c = rw (c .before .before .place-singles .ensures, placed-fits _ _ (c .before .before .before .before .before .before .before .before .before .before .before .before .args .client .now) (c .before .before .before .before .before .before .before .before .before .before .before .before .args .part .now) refl (sym (c .before .before .before .before .before .before .before .before .before .row-fits .ensures) ∙ c .before .before .before .before .before .before .before .before .if1 .taken))

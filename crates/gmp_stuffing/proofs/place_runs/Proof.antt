@@ -7,7 +7,8 @@ use lib.ListN.{length, length-set}
 use borrow.Author.Needs.{needs}
 use Rattle.gmp_stuffing.specs.Row.{rowBytes}
 use Rattle.gmp_stuffing.proofs.Filled.{Filled}
-use Rattle.gmp_stuffing.proofs.Runs.{row-le, placed-none}
+use Rattle.gmp_row.proofs.Rows.{row-le}
+use Rattle.gmp_stuffing.proofs.Runs.{placed-none}
 use Rattle.gmp_stuffing.proofs.Turns.{Ahead, ahead-row, turn, hop-word, block-room, run-room, last-room, in-client, used-next, place-turn, place-last}
 use Rattle.gmp_stuffing.proofs.place_runs.Statement.{statement}
 use Rattle.gmp_stuffing.proofs.place_runs.Tie as tie
@@ -31,7 +32,7 @@ loop-holds : tie.Need-loop-holds Inv-loop μ-loop Inv-loop2 μ-loop2
 loop-holds c =
     let g = c .before .before .before .args in
     let k = length (g .part .now) in
-    let s = c .row-runs .ensures in
+    let s = c .row-runs .ensures (c .before .before .before .pre .0) (c .before .before .before .pre .1) (c .before .before .before .pre .2) in
     let a = ahead-row k (length (g .client .now)) (4 * k - length (g .client .now)) (g .r) _ (omega arith) (omega arith) (c .before .before .before .pre .2) (s .0) in
     (omega (arith, a .0), rw (s .1) (a .1), refl, placed-none (g .r) (g .client .now) (g .part .now))
 
@@ -43,32 +44,32 @@ sub-copy-pair c = c .before .before .loop .inv .0
 
 copy-pair-requires : tie.Need-copy-pair-requires Inv-loop μ-loop Inv-loop2 μ-loop2
 copy-pair-requires c κs =
-    let s = c .before .before .before .row-runs .ensures in
+    let s = c .before .before .before .row-runs .ensures (c .before .before .before .before .before .before .pre .0) (c .before .before .before .before .before .before .pre .1) (c .before .before .before .before .before .before .pre .2) in
     let e = s .5 (c .before .before .loop .parts) (c .before .loop-test .taken) in
     let q = block-room (c .before .before .loop .inv .1) _ (c .before .before .before .before .before .before .pre .3) (e .0) (e .1) in
     (omega (arith, q .row, c .before .before .loop .inv .2), in-client (c .before .before .before .before .before .before .pre .1) q, s .3, s .4)
 
 slice-write-part : tie.Need-slice-write-part Inv-loop μ-loop Inv-loop2 μ-loop2
-slice-write-part c = omega (arith, c .before .before .before .before .before .before .row-runs .ensures .5 (c .before .before .before .before .before .loop .parts) (c .before .before .before .before .loop-test .taken) .1, c .before .before .copy-pair .kept .0, c .before .before .before .before .before .loop .inv .2)
+slice-write-part c = omega (arith, c .before .before .before .before .before .before .row-runs .ensures (c .before .before .before .before .before .before .before .before .before .pre .0) (c .before .before .before .before .before .before .before .before .before .pre .1) (c .before .before .before .before .before .before .before .before .before .pre .2) .5 (c .before .before .before .before .before .loop .parts) (c .before .before .before .before .loop-test .taken) .1, c .before .before .copy-pair .kept .0, c .before .before .before .before .before .loop .inv .2)
 
 add-stuffed : tie.Need-add-stuffed Inv-loop μ-loop Inv-loop2 μ-loop2
 add-stuffed c = omega (arith, row-le (c .before .before .before .before .before .before .before .before .before .args .r) (length (c .before .before .before .before .before .before .before .before .before .args .part .now)) (c .before .before .before .before .before .before .before .before .before .pre .1), c .before .before .before .before .before .loop .inv .0, c .before .before .before .before .before .loop .inv .1 .within)
 
 add-at : tie.Need-add-at Inv-loop μ-loop Inv-loop2 μ-loop2
-add-at c = omega (arith, c .before .before .before .before .before .before .row-runs .ensures .5 (c .before .before .before .before .before .loop .parts) (c .before .before .before .before .loop-test .taken) .1)
+add-at c = omega (arith, c .before .before .before .before .before .before .row-runs .ensures (c .before .before .before .before .before .before .before .before .before .pre .0) (c .before .before .before .before .before .before .before .before .before .pre .1) (c .before .before .before .before .before .before .before .before .before .pre .2) .5 (c .before .before .before .before .before .loop .parts) (c .before .before .before .before .loop-test .taken) .1)
 
 add-parts : tie.Need-add-parts Inv-loop μ-loop Inv-loop2 μ-loop2
-add-parts c = rw (c .before .before .before .before .before .before .row-runs .ensures .2) (hop-word (c .before .before .before .before .before .loop .inv .1) (omega (arith, c .before .before .before .before .before .before .row-runs .ensures .5 (c .before .before .before .before .before .loop .parts) (c .before .before .before .before .loop-test .taken) .1)))
+add-parts c = rw (c .before .before .before .before .before .before .row-runs .ensures (c .before .before .before .before .before .before .before .before .before .pre .0) (c .before .before .before .before .before .before .before .before .before .pre .1) (c .before .before .before .before .before .before .before .before .before .pre .2) .2) (hop-word (c .before .before .before .before .before .loop .inv .1) (omega (arith, c .before .before .before .before .before .before .row-runs .ensures (c .before .before .before .before .before .before .before .before .before .pre .0) (c .before .before .before .before .before .before .before .before .before .pre .1) (c .before .before .before .before .before .before .before .before .before .pre .2) .5 (c .before .before .before .before .before .loop .parts) (c .before .before .before .before .loop-test .taken) .1)))
 
 loop-less : tie.Need-loop-less Inv-loop μ-loop Inv-loop2 μ-loop2
 loop-less c =
-    let e = c .before .before .before .before .before .before .row-runs .ensures .5 (c .before .before .before .before .before .loop .parts) (c .before .before .before .before .loop-test .taken) in
+    let e = c .before .before .before .before .before .before .row-runs .ensures (c .before .before .before .before .before .before .before .before .before .pre .0) (c .before .before .before .before .before .before .before .before .before .pre .1) (c .before .before .before .before .before .before .before .before .before .pre .2) .5 (c .before .before .before .before .before .loop .parts) (c .before .before .before .before .loop-test .taken) in
     omega (arith, e .1, turn (c .before .before .before .before .before .loop .inv .1) (omega (arith, e .1)) .after)
 
 loop-again : tie.Need-loop-again Inv-loop μ-loop Inv-loop2 μ-loop2
 loop-again c =
     let g = c .before .before .before .before .before .before .before .before .before .args in
-    let s = c .before .before .before .before .before .before .row-runs .ensures in
+    let s = c .before .before .before .before .before .before .row-runs .ensures (c .before .before .before .before .before .before .before .before .before .pre .0) (c .before .before .before .before .before .before .before .before .before .pre .1) (c .before .before .before .before .before .before .before .before .before .pre .2) in
     let v = c .before .before .before .before .before .loop .inv in
     let e = s .5 (c .before .before .before .before .before .loop .parts) (c .before .before .before .before .loop-test .taken) in
     let h : c .before .before .before .before .before .loop .parts / 1099511627776 < length (g .part .now) = omega (arith, e .1) in (
@@ -108,7 +109,7 @@ add-at-2 : tie.Need-add-at-2 Inv-loop μ-loop Inv-loop2 μ-loop2
 add-at-2 c = omega (arith, c .before .before .before .before .loop2-test .taken, c .before .before .before .before .before .before .before .before .before .before .before .pre .2)
 
 add-parts-2 : tie.Need-add-parts-2 Inv-loop μ-loop Inv-loop2 μ-loop2
-add-parts-2 c = rw (c .before .before .before .before .before .before .before .before .row-runs .ensures .2) (hop-word (c .before .before .before .before .before .loop2 .inv .0) (c .before .before .before .before .loop2-test .taken))
+add-parts-2 c = rw (c .before .before .before .before .before .before .before .before .row-runs .ensures (c .before .before .before .before .before .before .before .before .before .before .before .pre .0) (c .before .before .before .before .before .before .before .before .before .before .before .pre .1) (c .before .before .before .before .before .before .before .before .before .before .before .pre .2) .2) (hop-word (c .before .before .before .before .before .loop2 .inv .0) (c .before .before .before .before .loop2-test .taken))
 
 loop2-less : tie.Need-loop2-less Inv-loop μ-loop Inv-loop2 μ-loop2
 loop2-less c = omega (arith, c .before .before .before .before .loop2-test .taken, turn (c .before .before .before .before .before .loop2 .inv .0) (c .before .before .before .before .loop2-test .taken) .after)
@@ -117,7 +118,7 @@ loop2-again : tie.Need-loop2-again Inv-loop μ-loop Inv-loop2 μ-loop2
 loop2-again c =
     let g = c .before .before .before .before .before .before .before .before .before .before .before .args in
     let v = c .before .before .before .before .before .loop2 .inv in (
-      rw (c .before .before .before .before .before .before .before .before .row-runs .ensures .2) (turn (v .0) (c .before .before .before .before .loop2-test .taken) .next),
+      rw (c .before .before .before .before .before .before .before .before .row-runs .ensures (c .before .before .before .before .before .before .before .before .before .before .before .pre .0) (c .before .before .before .before .before .before .before .before .before .before .before .pre .1) (c .before .before .before .before .before .before .before .before .before .before .before .pre .2) .2) (turn (v .0) (c .before .before .before .before .loop2-test .taken) .next),
       rw length-set (c .before .before .copy-run .kept .0 ∙ v .1),
       rw (c .before .before .copy-run .ensures) (place-turn (g .client .now) (v .0) (v .2) (c .before .before .before .before .before .before .before .before .before .before .before .pre .1) _ (c .before .before .before .before .loop2-test .taken) (run-room (v .0) (c .before .before .before .before .loop2-test .taken))),
     )

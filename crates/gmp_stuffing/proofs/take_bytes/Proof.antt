@@ -6,7 +6,8 @@ use lib.ListN.{length, length-set}
 use borrow.Author.Needs.{needs}
 use Rattle.gmp_stuffing.specs.Row.{rowClient}
 use Rattle.gmp_stuffing.proofs.Filled.{Filled, filled-all}
-use Rattle.gmp_stuffing.proofs.Runs.{row-le, row-count, in-frame, taken-none, take-byte}
+use Rattle.gmp_row.proofs.Rows.{row-le}
+use Rattle.gmp_stuffing.proofs.Runs.{row-count, in-frame, taken-none, take-byte}
 use Rattle.gmp_stuffing.proofs.Turns.{Step, step-row, next-client, next-stuffing, rest-word}
 use Rattle.gmp_stuffing.proofs.take_bytes.Statement.{statement}
 use Rattle.gmp_stuffing.proofs.take_bytes.Tie as tie

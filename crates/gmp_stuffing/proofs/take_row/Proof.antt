@@ -7,7 +7,8 @@ use borrow.Author.Needs.{needs}
 use borrow.Author.Tests.{lt-leb, le-leb}
 use Rattle.gmp_stuffing.specs.Row.{rowFits, rowTaken}
 use Rattle.gmp_stuffing.proofs.Parts.{in-parts}
-use Rattle.gmp_stuffing.proofs.Runs.{row-le, row-within, full-taken}
+use Rattle.gmp_row.proofs.Rows.{row-le}
+use Rattle.gmp_stuffing.proofs.Runs.{row-within, full-taken}
 use Rattle.gmp_stuffing.proofs.Laws.{fits-gives, taken-fits}
 use Rattle.gmp_stuffing.proofs.take_row.Statement.{statement}
 use Rattle.gmp_stuffing.proofs.take_row.Tie as tie
@@ -57,7 +58,7 @@ returns-2 c =
     let g = c .before .before .before .before .before .before .before .before .before .before .args in
     let e = sym (c .before .before .before .before .before .before .row-fits .ensures) ∙ c .before .before .before .before .before .if2 .taken in
     let f = fits-gives _ _ _ e in
-    rw (c .before .before .copy-run .ensures, taken-fits _ _ _ (g .part .now) (g .out .now) refl e (c .before .before .before .before .before .before .before .if1 .left), full-taken (g .r) (g .count) (g .part .now) (g .out .now) (c .before .before .before .before .if3 .taken) (c .before .before .before .before .before .before .before .if1 .left) (f .1))
+    rw (c .before .before .copy-run .ensures, taken-fits _ _ _ (g .part .now) (g .out .now) refl e (c .before .before .before .before .before .before .before .if1 .left), full-taken (g .r) (g .count) (g .part .now) (g .out .now) (omega (arith, f .2, c .before .before .before .before .if3 .taken)) (c .before .before .before .before .before .before .before .if1 .left) (f .1))
 
 returns-3 : tie.Need-returns-3
 returns-3 c = rw (c .before .before .take-singles .ensures, taken-fits _ _ _ (c .before .before .before .before .before .before .before .before .before .before .before .before .before .args .part .now) (c .before .before .before .before .before .before .before .before .before .before .before .before .before .args .out .now) refl (sym (c .before .before .before .before .before .before .before .before .before .row-fits .ensures) ∙ c .before .before .before .before .before .before .before .before .if2 .taken) (c .before .before .before .before .before .before .before .before .before .before .if1 .left))

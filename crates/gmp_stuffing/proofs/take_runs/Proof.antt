@@ -7,7 +7,8 @@ use lib.ListN.{length}
 use borrow.Author.Needs.{needs}
 use Rattle.gmp_stuffing.specs.Row.{rowClient}
 use Rattle.gmp_stuffing.proofs.Filled.{Filled}
-use Rattle.gmp_stuffing.proofs.Runs.{row-le, taken-none}
+use Rattle.gmp_row.proofs.Rows.{row-le}
+use Rattle.gmp_stuffing.proofs.Runs.{taken-none}
 use Rattle.gmp_stuffing.proofs.Turns.{Ahead, ahead-row, turn, hop-word, block-room, run-room, last-room, in-client, used-next, take-turn, take-last, take-on}
 use Rattle.gmp_stuffing.proofs.take_runs.Statement.{statement}
 use Rattle.gmp_stuffing.proofs.take_runs.Tie as tie
@@ -31,7 +32,7 @@ loop-holds : tie.Need-loop-holds Inv-loop μ-loop Inv-loop2 μ-loop2
 loop-holds c =
     let g = c .before .before .before .args in
     let k = length (g .part .now) in
-    let s = c .row-runs .ensures in
+    let s = c .row-runs .ensures (c .before .before .before .pre .0) (c .before .before .before .pre .2) (c .before .before .before .pre .3) in
     let a = ahead-row k (g .count) (4 * k - g .count) (g .r) _ (omega arith) (omega arith) (c .before .before .before .pre .3) (s .0) in
     let z : g .r * k + 0 ≡ g .r * k = omega arith in
     let none = taken-none (g .r) (g .count) (g .part .now) (g .out .now) (omega arith) (omega arith) (c .before .before .before .pre .1) (c .before .before .before .pre .2) in
@@ -45,7 +46,7 @@ sub-copy-pair c = c .before .before .loop .inv .0
 
 copy-pair-requires : tie.Need-copy-pair-requires Inv-loop μ-loop Inv-loop2 μ-loop2
 copy-pair-requires c κs =
-    let s = c .before .before .before .row-runs .ensures in
+    let s = c .before .before .before .row-runs .ensures (c .before .before .before .before .before .before .pre .0) (c .before .before .before .before .before .before .pre .2) (c .before .before .before .before .before .before .pre .3) in
     let e = s .5 (c .before .before .loop .parts) (c .before .loop-test .taken) in
     let q = block-room (c .before .before .loop .inv .1) _ (c .before .before .before .before .before .before .pre .4) (e .0) (e .1) in
     (omega (arith, in-client (c .before .before .before .before .before .before .pre .2) q, c .before .before .loop .inv .2, c .before .before .before .before .before .before .pre .1), q .row, s .3, s .4)
@@ -54,20 +55,20 @@ add-stuffed : tie.Need-add-stuffed Inv-loop μ-loop Inv-loop2 μ-loop2
 add-stuffed c = omega (arith, row-le (c .before .before .before .before .before .before .before .before .before .args .r) (length (c .before .before .before .before .before .before .before .before .before .args .part .now)) (c .before .before .before .before .before .before .before .before .before .pre .2), c .before .before .before .before .before .loop .inv .0, c .before .before .before .before .before .loop .inv .1 .within)
 
 add-at : tie.Need-add-at Inv-loop μ-loop Inv-loop2 μ-loop2
-add-at c = omega (arith, c .before .before .before .before .before .before .row-runs .ensures .5 (c .before .before .before .before .before .loop .parts) (c .before .before .before .before .loop-test .taken) .1)
+add-at c = omega (arith, c .before .before .before .before .before .before .row-runs .ensures (c .before .before .before .before .before .before .before .before .before .pre .0) (c .before .before .before .before .before .before .before .before .before .pre .2) (c .before .before .before .before .before .before .before .before .before .pre .3) .5 (c .before .before .before .before .before .loop .parts) (c .before .before .before .before .loop-test .taken) .1)
 
 add-parts : tie.Need-add-parts Inv-loop μ-loop Inv-loop2 μ-loop2
-add-parts c = rw (c .before .before .before .before .before .before .row-runs .ensures .2) (hop-word (c .before .before .before .before .before .loop .inv .1) (omega (arith, c .before .before .before .before .before .before .row-runs .ensures .5 (c .before .before .before .before .before .loop .parts) (c .before .before .before .before .loop-test .taken) .1)))
+add-parts c = rw (c .before .before .before .before .before .before .row-runs .ensures (c .before .before .before .before .before .before .before .before .before .pre .0) (c .before .before .before .before .before .before .before .before .before .pre .2) (c .before .before .before .before .before .before .before .before .before .pre .3) .2) (hop-word (c .before .before .before .before .before .loop .inv .1) (omega (arith, c .before .before .before .before .before .before .row-runs .ensures (c .before .before .before .before .before .before .before .before .before .pre .0) (c .before .before .before .before .before .before .before .before .before .pre .2) (c .before .before .before .before .before .before .before .before .before .pre .3) .5 (c .before .before .before .before .before .loop .parts) (c .before .before .before .before .loop-test .taken) .1)))
 
 loop-less : tie.Need-loop-less Inv-loop μ-loop Inv-loop2 μ-loop2
 loop-less c =
-    let e = c .before .before .before .before .before .before .row-runs .ensures .5 (c .before .before .before .before .before .loop .parts) (c .before .before .before .before .loop-test .taken) in
+    let e = c .before .before .before .before .before .before .row-runs .ensures (c .before .before .before .before .before .before .before .before .before .pre .0) (c .before .before .before .before .before .before .before .before .before .pre .2) (c .before .before .before .before .before .before .before .before .before .pre .3) .5 (c .before .before .before .before .before .loop .parts) (c .before .before .before .before .loop-test .taken) in
     omega (arith, e .1, turn (c .before .before .before .before .before .loop .inv .1) (omega (arith, e .1)) .after)
 
 loop-again : tie.Need-loop-again Inv-loop μ-loop Inv-loop2 μ-loop2
 loop-again c =
     let g = c .before .before .before .before .before .before .before .before .before .args in
-    let s = c .before .before .before .before .before .before .row-runs .ensures in
+    let s = c .before .before .before .before .before .before .row-runs .ensures (c .before .before .before .before .before .before .before .before .before .pre .0) (c .before .before .before .before .before .before .before .before .before .pre .2) (c .before .before .before .before .before .before .before .before .before .pre .3) in
     let v = c .before .before .before .before .before .loop .inv in
     let e = s .5 (c .before .before .before .before .before .loop .parts) (c .before .before .before .before .loop-test .taken) in
     let h : c .before .before .before .before .before .loop .parts / 1099511627776 < length (g .part .now) = omega (arith, e .1) in (
@@ -106,7 +107,7 @@ add-at-2 : tie.Need-add-at-2 Inv-loop μ-loop Inv-loop2 μ-loop2
 add-at-2 c = omega (arith, c .before .before .before .before .loop2-test .taken, c .before .before .before .before .before .before .before .before .before .before .before .pre .3)
 
 add-parts-2 : tie.Need-add-parts-2 Inv-loop μ-loop Inv-loop2 μ-loop2
-add-parts-2 c = rw (c .before .before .before .before .before .before .before .before .row-runs .ensures .2) (hop-word (c .before .before .before .before .before .loop2 .inv .0) (c .before .before .before .before .loop2-test .taken))
+add-parts-2 c = rw (c .before .before .before .before .before .before .before .before .row-runs .ensures (c .before .before .before .before .before .before .before .before .before .before .before .pre .0) (c .before .before .before .before .before .before .before .before .before .before .before .pre .2) (c .before .before .before .before .before .before .before .before .before .before .before .pre .3) .2) (hop-word (c .before .before .before .before .before .loop2 .inv .0) (c .before .before .before .before .loop2-test .taken))
 
 loop2-less : tie.Need-loop2-less Inv-loop μ-loop Inv-loop2 μ-loop2
 loop2-less c = omega (arith, c .before .before .before .before .loop2-test .taken, turn (c .before .before .before .before .before .loop2 .inv .0) (c .before .before .before .before .loop2-test .taken) .after)
@@ -115,7 +116,7 @@ loop2-again : tie.Need-loop2-again Inv-loop μ-loop Inv-loop2 μ-loop2
 loop2-again c =
     let g = c .before .before .before .before .before .before .before .before .before .before .before .args in
     let v = c .before .before .before .before .before .loop2 .inv in (
-      rw (c .before .before .before .before .before .before .before .before .row-runs .ensures .2) (turn (v .0) (c .before .before .before .before .loop2-test .taken) .next),
+      rw (c .before .before .before .before .before .before .before .before .row-runs .ensures (c .before .before .before .before .before .before .before .before .before .before .before .pre .0) (c .before .before .before .before .before .before .before .before .before .before .before .pre .2) (c .before .before .before .before .before .before .before .before .before .before .before .pre .3) .2) (turn (v .0) (c .before .before .before .before .loop2-test .taken) .next),
       c .before .before .copy-run .kept .0 ∙ v .1,
       rw (c .before .before .copy-run .ensures) (take-turn (g .part .now) (c .before .before .before .before .before .before .before .loop .out) (v .0) (v .2) (omega (arith, c .before .before .before .before .before .before .before .before .before .before .before .pre .1, c .before .before .before .before .before .before .before .loop .inv .2)) (c .before .before .before .before .before .before .before .before .before .before .before .pre .2) _ (c .before .before .before .before .loop2-test .taken) (run-room (v .0) (c .before .before .before .before .loop2-test .taken))),
     )

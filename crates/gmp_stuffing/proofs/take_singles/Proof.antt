@@ -9,6 +9,7 @@ use Rattle.gmp_stuffing.specs.Row.{rowClient}
 use Rattle.gmp_stuffing.proofs.Filled.{Filled, filled-all}
 use Rattle.gmp_stuffing.proofs.Runs.{row-count, row-end, client-ends, taken-none, take-byte}
 use Rattle.gmp_stuffing.proofs.Turns.{Single, single-row, found}
+use Rattle.gmp_stuffing.proofs.Singles.{some-byte}
 use Rattle.gmp_stuffing.proofs.take_singles.Statement.{statement}
 use Rattle.gmp_stuffing.proofs.take_singles.Tie as tie
 
@@ -29,7 +30,7 @@ loop-holds : tie.Need-loop-holds Inv-loop μ-loop
 loop-holds c =
     let g = c .before .before .before .before .args in
     let k = length (g .part .now) in
-    let s = c .row-singles .ensures in (
+    let s = c .row-singles .ensures (c .before .before .before .before .pre .0) (c .before .before .before .before .pre .2) (c .before .before .before .before .pre .3) (some-byte _ (c .before .if1 .left)) in (
       rw (s .0) (single-row k (g .count) (g .r) (omega arith) (omega arith) (c .before .before .before .before .pre .3) _ (s .2)),
       omega (arith, s .0, s .1),
       refl,
@@ -39,24 +40,24 @@ loop-holds c =
 shared-slice-read-out : tie.Need-shared-slice-read-out Inv-loop μ-loop
 shared-slice-read-out c =
     let g = c .before .before .before .before .before .before .before .args in
-    found (length (g .part .now)) (g .count) (g .r) (omega arith) (omega arith) (c .before .before .before .before .before .before .before .pre .3) (c .before .before .loop .inv .0) (omega (arith, c .before .before .before .row-singles .ensures .1)) .inside
+    found (length (g .part .now)) (g .count) (g .r) (omega arith) (omega arith) (c .before .before .before .before .before .before .before .pre .3) (c .before .before .loop .inv .0) (omega (arith, c .before .before .before .row-singles .ensures (c .before .before .before .before .before .before .before .pre .0) (c .before .before .before .before .before .before .before .pre .2) (c .before .before .before .before .before .before .before .pre .3) (some-byte _ (c .before .before .before .before .if1 .left)) .1)) .inside
 
 slice-write-out : tie.Need-slice-write-out Inv-loop μ-loop
 slice-write-out c =
     let g = c .before .before .before .before .before .before .before .args in
-    omega (arith, c .before .before .loop .inv .2, c .before .before .before .row-singles .ensures .1, row-end (g .r) (length (g .part .now)) (g .count) (omega arith), client-ends (g .r) (g .count) (g .part .now) (g .out .now) (omega arith) (omega arith) (c .before .before .before .before .before .before .before .pre .1) (c .before .before .before .before .before .before .before .pre .2))
+    omega (arith, c .before .before .loop .inv .2, c .before .before .before .row-singles .ensures (c .before .before .before .before .before .before .before .pre .0) (c .before .before .before .before .before .before .before .pre .2) (c .before .before .before .before .before .before .before .pre .3) (some-byte _ (c .before .before .before .before .if1 .left)) .1, row-end (g .r) (length (g .part .now)) (g .count) (omega arith), client-ends (g .r) (g .count) (g .part .now) (g .out .now) (omega arith) (omega arith) (c .before .before .before .before .before .before .before .pre .1) (c .before .before .before .before .before .before .before .pre .2))
 
 add-parts : tie.Need-add-parts Inv-loop μ-loop
 add-parts c =
     let g = c .before .before .before .before .before .before .before .args in
-    rw (c .before .before .before .row-singles .ensures .3) (found (length (g .part .now)) (g .count) (g .r) (omega arith) (omega arith) (c .before .before .before .before .before .before .before .pre .3) (c .before .before .loop .inv .0) (omega (arith, c .before .before .before .row-singles .ensures .1)) .word)
+    rw (c .before .before .before .row-singles .ensures (c .before .before .before .before .before .before .before .pre .0) (c .before .before .before .before .before .before .before .pre .2) (c .before .before .before .before .before .before .before .pre .3) (some-byte _ (c .before .before .before .before .if1 .left)) .3) (found (length (g .part .now)) (g .count) (g .r) (omega arith) (omega arith) (c .before .before .before .before .before .before .before .pre .3) (c .before .before .loop .inv .0) (omega (arith, c .before .before .before .row-singles .ensures (c .before .before .before .before .before .before .before .pre .0) (c .before .before .before .before .before .before .before .pre .2) (c .before .before .before .before .before .before .before .pre .3) (some-byte _ (c .before .before .before .before .if1 .left)) .1)) .word)
 
 loop-again : tie.Need-loop-again Inv-loop μ-loop
 loop-again c =
     let g = c .before .before .before .before .before .before .before .args in
     let v = c .before .before .loop .inv in
-    let f = found (length (g .part .now)) (g .count) (g .r) (omega arith) (omega arith) (c .before .before .before .before .before .before .before .pre .3) (v .0) (omega (arith, c .before .before .before .row-singles .ensures .1)) in (
-      rw (c .before .before .before .row-singles .ensures .3) (f .next),
+    let f = found (length (g .part .now)) (g .count) (g .r) (omega arith) (omega arith) (c .before .before .before .before .before .before .before .pre .3) (v .0) (omega (arith, c .before .before .before .row-singles .ensures (c .before .before .before .before .before .before .before .pre .0) (c .before .before .before .before .before .before .before .pre .2) (c .before .before .before .before .before .before .before .pre .3) (some-byte _ (c .before .before .before .before .if1 .left)) .1)) in (
+      rw (c .before .before .before .row-singles .ensures (c .before .before .before .before .before .before .before .pre .0) (c .before .before .before .before .before .before .before .pre .2) (c .before .before .before .before .before .before .before .pre .3) (some-byte _ (c .before .before .before .before .if1 .left)) .3) (f .next),
       omega arith,
       rw length-set (v .2),
       take-byte (g .r) (g .count) (g .part .now) (g .out .now) (omega arith) (omega arith) (c .before .before .before .before .before .before .before .pre .1) (c .before .before .before .before .before .before .before .pre .2) _ (v .3) (sym (f .count)) (f .inside) (f .client),
@@ -68,7 +69,7 @@ same-length c = c .before .loop .inv .2
 returns-2 : tie.Need-returns-2 Inv-loop μ-loop
 returns-2 c =
     let g = c .before .before .before .before .before .before .args in
-    filled-all (c .before .loop .inv .3) (omega (arith, c .before .loop .inv .1, c .before .before .row-singles .ensures .1, row-end (g .r) (length (g .part .now)) (g .count) (omega arith)))
+    filled-all (c .before .loop .inv .3) (omega (arith, c .before .loop .inv .1, c .before .before .row-singles .ensures (c .before .before .before .before .before .before .pre .0) (c .before .before .before .before .before .before .pre .2) (c .before .before .before .before .before .before .pre .3) (some-byte _ (c .before .before .before .if1 .left)) .1, row-end (g .r) (length (g .part .now)) (g .count) (omega arith)))
 
 pub take-singles-spec : {M : Type 1} → statement M
 take-singles-spec =

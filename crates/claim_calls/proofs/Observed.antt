@@ -13,9 +13,9 @@ use Rattle.gmp_source.specs.declared.SourceState.{SourceState}
 use Rattle.card_tally.specs.declared.Tallies.{Tallies}
 use Rattle.gmp_sink.specs.declared.SinkState.{SinkState}
 use Rattle.gmp_sink.specs.Sink.{answerMeaning, sinkRefusal, sinkAnswer, standingAfter}
 use Rattle.claim_recovery.specs.Runs.{SourceStep, SinkStep, sourceTakes, sinkTakes, sourceSteps, sinkSteps, sinkEnd}
 use Rattle.claim_recovery.specs.Tallied.{talliesEnd}
-use Rattle.claim_recovery.specs.Observed.{SourceSeen, SinkSeen, SourcePassed, SinkPassed, TalliesPassed, sourceCalls, sourceTaken, sinkCalls, sinkTaken, sinkMade, AsDefined}
+use Rattle.claim_calls.specs.Observed.{SourceSeen, SinkSeen, SourcePassed, SinkPassed, TalliesPassed, sourceCalls, sourceTaken, sinkCalls, sinkTaken, sinkMade, AsDefined}
 
 source-is : (z : SourceState) (seen : List SourceSeen) → SourcePassed z seen → sourceTaken seen ≡ sourceSteps z (sourceCalls seen)
 unfolding sourceSteps

@@ -13,7 +13,7 @@ use contract.Lifetimes.{Lfts}
 use denote.Triple.Entry.{Args}
 use denote.Triple.Clauses.{AtExit}
 use Rattle.gmp_sink.specs.declared.SinkResult.{SinkResult}
-use Rattle.card_count.specs.Card.{CallPromise}
+use Rattle.card_promise.specs.Card.{CallPromise}
 use Rattle.card_sink.proofs.sink_call as call
 
 pub lent-tallies-promises : {M : Type 1} (𝓤 : URA M) (H : Heap 𝓤) (A : Atoms 𝓤) (mem : Memory → SProp 𝓤) (run : Routine → Fun 𝓤) (κs : Lfts 3)

@@ -1,12 +1,11 @@
--- `gmp_stuffing::row_singles` meets its contract. Assumes nothing.
+-- `gmp_row::singles_of` meets its contract. Assumes nothing.
 use Prim.Native.Nat.{ℕ, _-_, _*_, _/_, _%_, _≤_, _<_}
 use native.Mathlib.Nat.{div-le-self, le-div-iff-mul-le, mul-le-mul}
 use native.Mathlib.Omega.{arith}
 use borrow.Author.Needs.{needs}
-use Rattle.gmp_stuffing.proofs.Parts.{U}
-use Rattle.gmp_stuffing.proofs.Runs.{row-le}
-use Rattle.gmp_stuffing.proofs.row_singles.Statement.{statement}
-use Rattle.gmp_stuffing.proofs.row_singles.Tie as tie
+use Rattle.gmp_row.proofs.Rows.{U, row-le}
+use Rattle.gmp_row.proofs.singles_of.Statement.{statement}
+use Rattle.gmp_row.proofs.singles_of.Tie as tie
 
 -- the parts up to the end of the first client byte are at least 1, so that 1 can be taken off
 least : (k C y : ℕ) → 0 < C → C < 4 * k → 1 ≤ (4 - y % 4) * (k * U / C)
@@ -36,7 +35,7 @@ mul-t13 c = omega (arith, div-le-self (c .args .k * U) (c .args .c))
 returns : tie.Need-returns
 returns c = (omega arith, omega arith, omega (arith, least (c .args .k) (c .args .c) (c .args .r * c .args .c) (c .pre .3) (c .pre .0)), omega arith)
 
-pub row-singles-spec : {M : Type 1} → statement M
-row-singles-spec =
+pub singles-of-spec : {M : Type 1} → statement M
+singles-of-spec =
     tie.close
     (tie.spec (λ c. search needs) (λ c. search needs) mul-quarters add-t7 (λ c. search needs) mul-t11 sub-t12 mul-t13 returns)

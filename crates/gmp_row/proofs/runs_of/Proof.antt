@@ -1,12 +1,11 @@
--- `gmp_stuffing::row_runs` meets its contract. Assumes nothing.
+-- `gmp_row::runs_of` meets its contract. Assumes nothing.
 use Prim.Native.Nat.{ℕ, _+_, _-_, _*_, _/_, _≤_}
 use native.Mathlib.Nat.{div-le-self, mul-le-mul}
 use native.Mathlib.Omega.{arith}
 use borrow.Author.Needs.{needs}
-use Rattle.gmp_stuffing.proofs.Parts.{U}
-use Rattle.gmp_stuffing.proofs.Runs.{row-le}
-use Rattle.gmp_stuffing.proofs.row_runs.Statement.{statement}
-use Rattle.gmp_stuffing.proofs.row_runs.Tie as tie
+use Rattle.gmp_row.proofs.Rows.{U, row-le}
+use Rattle.gmp_row.proofs.runs_of.Statement.{statement}
+use Rattle.gmp_row.proofs.runs_of.Tie as tie
 
 -- the first stuffing byte's parts
 most : (k D y : ℕ) → (4 * ((y + 3) / 4) - y) * (k * U / D + 1) ≤ 3 * (k * U + 1)
@@ -42,8 +41,8 @@ returns c =
     let s = c .blocks-stop .ensures in
     (omega arith, omega arith, omega arith, b .0, b .1, λ x h. (b .2 (s x h .0), s x h .1))
 
-pub row-runs-spec : {M : Type 1} → statement M
-row-runs-spec =
+pub runs-of-spec : {M : Type 1} → statement M
+runs-of-spec =
     tie.close
     (tie.spec
     (λ c. search needs)

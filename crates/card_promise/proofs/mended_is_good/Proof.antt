@@ -1,4 +1,4 @@
--- `card_count::mended_is_good` meets its contract. Assumes nothing.
+-- `card_promise::mended_is_good` meets its contract. Assumes nothing.
 use mathlib.Core.Path.{_≡_, ap, _∙_}
 use mathlib.Core.Bool.{Bool, true, cond}
 use mathlib.Core.List.{List}
@@ -13,9 +13,9 @@ use Rattle.gmp_payload_type.specs.declared.Expected.{Expected}
 use Rattle.gmp_sink.specs.declared.SinkState.{SinkState}
 use Rattle.gmp_sink.specs.Sink.{sinkAnswer, sinkMended, sinkHanded}
 use Rattle.gmp_sink.proofs.Laws.{mended-answers}
-use Rattle.card_count.specs.Card.{badFrames, talliesBy, talliesAfter}
-use Rattle.card_count.proofs.mended_is_good.Statement.{statement}
-use Rattle.card_count.proofs.mended_is_good.Tie as tie
+use Rattle.card_promise.specs.Card.{badFrames, talliesBy, talliesAfter}
+use Rattle.card_promise.proofs.mended_is_good.Statement.{statement}
+use Rattle.card_promise.proofs.mended_is_good.Tie as tie
 
 module _ (s : Settings) (z : SinkState) (frame out : List ℕ) (port : ℕ) (m : sinkMended s frame out port ≡ true) where
   answers : (f : Finding) × (sinkAnswer s z frame out port ≡ accepted f) × (badFrames f ≡ 0)

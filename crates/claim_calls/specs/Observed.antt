@@ -22,11 +22,11 @@ use Rattle.gmp_sink.specs.declared.SinkState.{SinkState}
 use Rattle.gmp_sink.specs.declared.SinkResult.{SinkResult}
 use Rattle.gmp_sink.specs.Sink.{answerMeaning}
 use Rattle.card_count.specs.declared.Counted.{Counted}
-use Rattle.card_count.specs.Card.{CallPromise}
+use Rattle.card_promise.specs.Card.{CallPromise}
 use Rattle.card_count.proofs.count_call.Reads as count-reading
 use Rattle.card_sink.proofs.lend_call.Reads as lend-reading
 use Rattle.claim_recovery.specs.Runs.{SourceCall, SinkCall, SourceStep, SinkStep, refusalOf, sourceSteps, sinkSteps, sinkEnd, frameOf, answerOf, mendedOf, handedOf, outOf}
 use Rattle.claim_recovery.specs.Tallied.{talliesEnd}
 
 -- a call of the source: it returned the result, left the frame buffer so, and kept its promise
 pub record SourceSeen : Type 0 where

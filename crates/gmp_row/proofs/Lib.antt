@@ -1,0 +1,2 @@
+-- What the placing cites of a row. Assumes nothing.
+pub mod Rows
