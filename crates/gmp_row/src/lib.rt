@@ -1,7 +1,7 @@
-// The numbers of a row, by which the placing goes through it: where its stuffing bytes or its client
-// bytes stand, in parts of a byte. k is the number of payload bytes of a row, c that of client bytes
-// of the frame, r the row, from 0. They are told of one of four rows below 2^17 bytes that leave
-// room for stuffing; of other numbers nothing is promised.
+// The numbers of a row, by which the placing goes through it: where its stuffing bytes or its
+// client bytes stand, in parts of a byte. A row has k payload bytes, the frame has c client bytes,
+// and r is the row, from 0. They are told of one of four rows below 2^17 bytes that leave room for
+// stuffing; of other numbers nothing is promised.
 ghost use mathlib.Core.Path.{_≡_};
 ghost use mathlib.Core.Bool.{_&&_, cond};
 ghost use Prim.Native.Nat.{ℕ, _+_, _-_, _*_, _/_, _%_, _≤_, _<_};
