@@ -71,6 +71,8 @@ as-defined =
     record {
       contracts =
           record {
+            new-source = λ κs s first payload-type r p. p;
+            new-sink = λ κs r p. p;
             source-call = λ κs s z next client buffer r frame p. p;
             count-call = λ κs s z w frame buffer port y r out p. p;
             lend-call = λ κs s z w frame buffer port y r out p. p;

@@ -15,12 +15,15 @@ use Rattle.gmp_settings.specs.declared.Settings.{Settings}
 use Rattle.card_tally.specs.declared.Tallies.{Tallies}
 use Rattle.gmp_source.specs.declared.SourceState.{SourceState}
 use Rattle.gmp_source.specs.declared.SourceResult.{SourceResult}
-use Rattle.gmp_source.specs.Source.{SourcePromise}
+use Rattle.gmp_source.specs.declared.SourceStart.{SourceStart}
+use Rattle.gmp_source.specs.Source.{SourcePromise, startMeaning, newSource}
+use Rattle.gmp_source.proofs.new_source.Reads as start-reading
 use Rattle.gmp_source_call.proofs.source_call.Reads as source-reading
 use Rattle.gmp_payload_type.specs.declared.Expected.{Expected}
 use Rattle.gmp_sink.specs.declared.SinkState.{SinkState}
 use Rattle.gmp_sink.specs.declared.SinkResult.{SinkResult}
-use Rattle.gmp_sink.specs.Sink.{answerMeaning}
+use Rattle.gmp_sink.specs.Sink.{answerMeaning, newSink}
+use Rattle.gmp_sink.proofs.new_sink.Reads as new-reading
 use Rattle.card_count.specs.declared.Counted.{Counted}
 use Rattle.card_promise.specs.Card.{CallPromise}
 use Rattle.card_count.proofs.count_call.Reads as count-reading
@@ -85,8 +88,13 @@ sinkMade [] = []
 sinkMade (y ∷ ys) = y .step ∷ sinkMade ys
 
 -- What the toolchain reads off the contracts of the calls (`Learnt`) is their promise: of what a
--- call was given, returned and left in the buffers that it was lent.
+-- call was given, returned and left in the buffers that it was lent. A run begins with the source
+-- that `new_source` made and the sink that `new_sink` made.
 pub record ContractsPromise : Type 0 where
+  pub new-source : (κs : Lfts 0) (s : Settings) (first payload-type : ℕ) (r : SourceStart)
+      → start-reading.Learnt κs (s, (first, (payload-type, tt))) r (s, (first, (payload-type, tt)))
+      → startMeaning r ≡ newSource s first payload-type
+  pub new-sink : (κs : Lfts 0) (r : SinkState) → new-reading.Learnt κs tt r tt → r ≡ newSink
   pub source-call : (κs : Lfts 2) (s : Settings) (z : SourceState) (next : ℕ) (client buffer : RefT (List ℕ)) (r : SourceResult) (frame : List ℕ)
       → source-reading.Learnt κs (s, (z, (next, (client, (buffer, tt))))) r (s, (z, (next, (client, (at-last buffer frame, tt)))))
       → SourcePromise s z next (client .now) (buffer .now) r frame

@@ -17,12 +17,12 @@ use Rattle.gmp_control.proofs.Reading.{NoneOr}
 use Rattle.gmp_payload_type.specs.declared.AcceptedType.{AcceptedType}
 use Rattle.gmp_payload_type.specs.declared.Types.{Types}
 use Rattle.gmp_payload_type.specs.Types.{isAccepted, gateOpen}
-use Rattle.gmp_payload_type.proofs.Laws.{open-off, open-on, stays, accepts-three}
+use Rattle.gmp_payload_type.proofs.Laws.{open-off, open-on, stays, accepts-third}
 use Rattle.gmp_source.specs.declared.SourceState.{SourceState}
 use Rattle.gmp_sink.specs.declared.SinkState.{SinkState}
 use Rattle.gmp_sink.specs.Sink.{newSink}
 use Rattle.claim_recovery.specs.Runs.{At, Nth, SourceCall, SinkCall, SourceStep, SinkStep, sourceSteps, sinkSteps, sinkEnd, loadOf, countOf}
-use Rattle.claim_recovery.specs.Demand.{SourceRun, Reads, Unharmed, AtMostWrong, Hands, Delivers, Recovery, HoldsCount, PassedOn, zerosBefore, TypedEach, TypedRecovery, ThreeCome, NoFalseCount, Demand3}
+use Rattle.claim_recovery.specs.Demand.{SourceRun, Reads, Unharmed, AtMostWrong, Hands, Delivers, Recovery, RecoveryAlone, HoldsCount, PassedOn, zerosBefore, TypedEach, TypedRecovery, ThreeCome, NoFalseCount, Demand3}
 use Rattle.claim_recovery.specs.Mended.{OneWrong, KeepsEach, Held, CostsNothing}
 use Rattle.claim_recovery.proofs.Lists.{Each, to-each, each-at, each-both, at-drop, drop-at, nth-at, at-nth, nth-same}
 use Rattle.claim_recovery.proofs.Threads.{Chain, chain, chain-drop, Thread, thread}
@@ -137,6 +137,15 @@ recovers-both s source calls run m n far fromFirst reads z fromAny reads₂ =
           );
     }
 
+recovers-alone : RecoveryAlone
+recovers-alone s source calls run m n z reader far reads =
+    record {
+      hold = holds s source calls run Unharmed m n z reader reads (unharmed s) far;
+      deliver = λ i low high.
+          let f = by-number s source calls run Unharmed m n z reader reads (Went s Unharmed) 2 (recovered s source calls run Unharmed m n z reader reads (unharmed s) far .1) i low high in
+          (f .0, f .1, f .2, f .3, delivers s (f .0) (f .1) (f .4 .0));
+    }
+
 -- With the type check on: frames that go for those that were written, each told by its own number
 -- and with one expected type. Where the type came, the gate goes by the source's.
 module _ (s : Settings) (on : s .«type_check» ≡ true) (source : SourceState) (calls : List SourceCall) (run : SourceRun s source calls) (Lent : SourceStep → SinkStep → Type 0)
@@ -156,7 +165,7 @@ module _ (s : Settings) (on : s .«type_check» ≡ true) (source : SourceState)
       let types = types-at s on is expected (frames s source calls run (m - 1) .0) (drop (m - 1) all) z (sinkSteps z reader) (sinkEnd z reader)
       (frames s source calls run (m - 1) .1) (told s source calls run (PassedOn Lent expected) m n z reader reads) passed
       (type-drop is (m - 1) all (one-type source calls)) (i - m) y (nth-at (sinkSteps z reader) (i + 1 - m) (i - m) y (omega arith) (k .3)) in
-      let accepted = ⊎-elim (stays (zerosBefore all m i) (z .types) is) (accepts-three (zerosBefore all m i) (z .types) is) came in
+      let accepted = ⊎-elim (stays (zerosBefore all m i) (z .types) is) (accepts-third (zerosBefore all m i) (z .types) is) came in
       let gate : gateOpen (s .«type_check») (y .state .types) (y .call .expected) ≡ eqb is expected =
       ap (λ (b : Bool). gateOpen b (y .state .types) (y .call .expected)) on
       ∙ open-on (y .state .types) (y .call .expected)
@@ -239,7 +248,7 @@ few-wrong-bits mending s same source calls run m n reader reads = record { count
         ⊎-map (λ c. c) (λ c. (last .0, last .1, c ∙ ap Known (last .2))) (none-or (end .count) _ safe)
 
 pub demand : Demand3
-demand = record { recovery = recovers-both; typed-recovery = typed-recovers; three-come = three-come; no-false-count = few-wrong-bits }
+demand = record { recovery = recovers-both; alone = recovers-alone; typed-recovery = typed-recovers; three-come = three-come; no-false-count = few-wrong-bits }
 
 -- The third claim: with mending on, frames with at most one wrong control bit go for those that
 -- were written.

@@ -17,7 +17,7 @@ use Rattle.gmp_control.specs.Word.{equalIndicators, wordBy}
 use Rattle.gmp_frame.specs.declared.Control.{Control}
 use Rattle.gmp_frame.specs.Frame.{controlOf}
 use Rattle.gmp_payload_type.specs.declared.AcceptedType.the-variants.{PayloadType}
-use Rattle.gmp_payload_type.specs.Types.{numberTold}
+use Rattle.gmp_payload_type.specs.Types.{timesSeen, numberTold}
 use Rattle.gmp_source.specs.declared.SourceState.{SourceState}
 use Rattle.gmp_source.specs.Source.{newSource}
 use Rattle.gmp_sink.specs.declared.SinkState.{SinkState}
@@ -97,6 +97,17 @@ Recovery =
 abbrev pub HoldsCount : List SourceStep → (n : ℕ) → SinkState → List SinkCall → Type 0
 HoldsCount sent n z reader = (x : SourceStep) × Nth sent n x × (sinkEnd z reader .count ≡ Known (countOf x))
 
+-- The same of one sink alone, in the state z from frame m, with no second sink beside it.
+pub record RecoveredAlone (s : Settings) (sent : List SourceStep) (m n : ℕ) (z : SinkState) (reader : List SinkCall) : Type 0 where
+  pub hold : HoldsCount sent n z reader
+  pub deliver : (i : ℕ) → m + 2 ≤ i → i ≤ n → (x : SourceStep) × (y : SinkStep) × Nth sent i x × Nth (sinkSteps z reader) (i + 1 - m) y × Delivers s x y
+
+abbrev pub RecoveryAlone : Type 0
+RecoveryAlone =
+    (s : Settings) (source : SourceState) (calls : List SourceCall) → SourceRun s source calls
+    → (m n : ℕ) (z : SinkState) (reader : List SinkCall) → m + 1 ≤ n → Reads s (sourceSteps source calls) Unharmed m n z reader
+    → RecoveredAlone s (sourceSteps source calls) m n z reader
+
 -- The frame is lent so, and the sink is told the number that the source wrote it with, and that
 -- this type is expected (02, P4: "a user who passes on the source's own multiframe numbers and one
 -- expected type").
@@ -114,10 +125,13 @@ abbrev pub zerosBefore : List SourceStep → ℕ → ℕ → ℕ
 zerosBefore sent m i = zeroFrames (take (i - m) (drop (m - 1) sent))
 
 -- The source's type came before frame i, at a sink that began in the state z with frame m: the sink
--- had accepted it before, or "three unharmed frames numbered 0 .. have also come", so that at least
--- three of the frames m to i - 1 are numbered 0.
+-- had accepted it before, or "three unharmed frames numbered 0 .. have also come". These are the
+-- frames numbered 0 among the frames m to i - 1, and before them those that the sink had seen last
+-- with this type, "and no other frame numbered 0 among them".
 abbrev pub TypeCame : SourceState → List SourceStep → (m i : ℕ) → SinkState → Type 0
-TypeCame source sent m i z = (z .types .accepted ≡ PayloadType (source .«payload_type»)) ⊎ (3 ≤ zerosBefore sent m i)
+TypeCame source sent m i z =
+    let is = source .«payload_type» in
+    (z .types .accepted ≡ PayloadType is) ⊎ (3 ≤ timesSeen (z .types .seen) is + zerosBefore sent m i)
 
 -- The call for frame i hands out exactly its load where the source's type is the expected one, and
 -- nothing where it is another.
@@ -175,6 +189,7 @@ NoFalseCount mending most =
 -- frames is as before".
 pub record Demand3 : Type 0 where
   pub recovery : Recovery
+  pub alone : RecoveryAlone
   pub typed-recovery : TypedRecovery
   pub three-come : ThreeCome
   pub no-false-count : (mending : Bool) → NoFalseCount mending (budget mending)

@@ -6,3 +6,4 @@ mod Run
 mod Customer
 mod Mended
 mod Typed
+mod Enough

@@ -6,3 +6,4 @@ pub mod Mended
 pub mod Typed
 pub mod Readable
 pub mod Less
+pub mod Enough

@@ -1,6 +1,6 @@
 -- Runs with the payload type checked (02, P4), on the grid K = 2 with the window 0 to 8: a port
--- with the right cord, one with a swapped cord, one whose cord is swapped in service, and the
--- swapped one with the type check off. Assumes nothing.
+-- with the right cord, one with a hit between frames numbered 0, one with a swapped cord, one whose
+-- cord is swapped in service, and the swapped one with the type check off. Assumes nothing.
 use mathlib.Core.Path.{_≡_}
 use mathlib.Core.Bool.{true}
 use mathlib.Core.List.{List, [], _∷_, _++_}
@@ -60,6 +60,16 @@ rightCord s =
     ∷ tell 513 s (typed 0) tt
     ∷ []
 
+-- a hit in the frame numbered 257, between the second and the third frame numbered 0
+abbrev pub hitBetween : List SinkCall
+hitBetween =
+    tell 0 checks (typed 7) tt
+    ∷ tell 256 checks (typed 7) tt
+    ∷ tell 257 checks (unread 0) tt
+    ∷ tell 512 checks (typed 7) tt
+    ∷ tell 513 checks (typed 0) tt
+    ∷ []
+
 -- the swapped cord: frames numbered 0, 256, 512 and 513 of another client, of type 5
 abbrev pub swappedCord : Settings → List SinkCall
 swappedCord s = tell 0 s (typed 5) tt ∷ tell 256 s (typed 5) tt ∷ tell 512 s (typed 5) tt ∷ tell 513 s (typed 0) tt ∷ []
@@ -89,6 +99,9 @@ pub record TypedRun : Type 0 where
   pub right-handed : handedAll (sinkSteps newSink (rightCord checks)) ≡ [] ∷ [] ∷ [] ∷ [] ∷ load ∷ []
   pub right-buffers : buffers (sinkSteps newSink (rightCord checks)) ≡ room ∷ room ∷ room ∷ room ∷ (load ++ drop 3 room) ∷ []
   pub right-types : sinkEnd newSink (rightCord checks) .types ≡ record { accepted = PayloadType 7; seen = Twice 7 }
+  -- the two that came before the hit count
+  pub hit-answers : answers (sinkSteps newSink hitBetween) ≡ says READ 3 ∷ says READ 3 ∷ silent BADCHECK ∷ says READ 3 ∷ says READ 3 ∷ []
+  pub hit-handed : handedAll (sinkSteps newSink hitBetween) ≡ [] ∷ [] ∷ [] ∷ [] ∷ load ∷ []
   -- of another client's frames nothing is handed out, and nothing is tallied as handed out
   pub swapped-answers : answers (sinkSteps newSink (swappedCord checks)) ≡ says READ 3 ∷ says READ 3 ∷ says READ 3 ∷ says READ 3 ∷ []
   pub swapped-handed : handedAll (sinkSteps newSink (swappedCord checks)) ≡ [] ∷ [] ∷ [] ∷ [] ∷ []

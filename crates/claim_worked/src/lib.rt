@@ -6,6 +6,7 @@ ghost use Rattle.claim_worked.specs.Mended.{MendedRun};
 ghost use Rattle.claim_worked.specs.Typed.{TypedRun};
 ghost use Rattle.claim_worked.specs.Readable.{Readable};
 ghost use Rattle.claim_worked.specs.Less.{NoLess};
+ghost use Rattle.claim_worked.specs.Enough.{Enough};
 
 // The starred cases of 01 hold, with the counts of 02's P7 in the place of 01's.
 pub fn starred_cases()
@@ -28,8 +29,8 @@ pub fn mended_run()
     ensures { λ _. ⌜ MendedRun ⌝ }
 {}
 
-// Ports with the payload type checked: the right cord, a swapped one, one swapped in service, and a
-// swapped one with the type check off.
+// Ports with the payload type checked: the right cord, a hit between frames numbered 0, a swapped
+// cord, one swapped in service, and a swapped one with the type check off.
 pub fn typed_run()
     ensures { λ _. ⌜ TypedRun ⌝ }
 {}
@@ -44,4 +45,10 @@ pub fn readable_runs()
 // on.
 pub fn no_less()
     ensures { λ _. ⌜ NoLess ⌝ }
+{}
+
+// Two unharmed frames bring one sink back from any state. With the type check on the bytes come
+// behind the third frame numbered 0, those that came before counted.
+pub fn is_enough()
+    ensures { λ _. ⌜ Enough ⌝ }
 {}

@@ -2,17 +2,17 @@
 use mathlib.Core.Path.{_≡_, refl, ap, ap₂, _∙_}
 use mathlib.Core.Bool.{Bool, true, false, cond, _&&_}
 use mathlib.Core.List.{List, [], _∷_}
-use Prim.Native.Nat.{ℕ, zero, suc, _≤_}
+use Prim.Native.Nat.{ℕ, zero, suc, _+_, _≤_}
 use native.Mathlib.Omega.{arith}
 use lib.Dec.{eqb}
-use borrow.Author.Tests.{eq-eqb}
+use borrow.Author.Tests.{eq-eqb, eqb-true}
 use Rattle.gmp_payload_type.specs.declared.AcceptedType.{AcceptedType}
 use Rattle.gmp_payload_type.specs.declared.AcceptedType.the-variants.{PayloadType}
 use Rattle.gmp_payload_type.specs.declared.Seen.{Seen}
 use Rattle.gmp_payload_type.specs.declared.Seen.the-variants.{Never, Once, Twice}
 use Rattle.gmp_payload_type.specs.declared.Types.{Types}
 use Rattle.gmp_payload_type.specs.declared.Expected.{Expected}
-use Rattle.gmp_payload_type.specs.Types.{newTypes, isLast, seenAfter, acceptedAfter, judged, numberedZero, typesAfter, isAccepted, gateOpen}
+use Rattle.gmp_payload_type.specs.Types.{newTypes, isLast, timesSeen, seenAfter, acceptedAfter, judged, numberedZero, typesAfter, isAccepted, gateOpen}
 use Rattle.gmp_payload_type.specs.Claims.{judgedAll, lastThree, ThreeRunning}
 
 -- the parts of what is remembered after one more type
@@ -91,6 +91,34 @@ accepts-three zero t k h = absurd (omega arith)
 accepts-three (suc zero) t k h = absurd (omega arith)
 accepts-three (suc (suc zero)) t k h = absurd (omega arith)
 accepts-three (suc (suc (suc n))) t k h = stays n (judged (judged (judged t k) k) k) k (third (judged (judged t k) k) k (twice t k))
+
+-- What was seen before counts among the three.
+second : (t : Types) (k : ℕ) → t .seen ≡ Once k → judged t k .seen ≡ Twice k
+second t k e = judged-seen t k ∙ ap (λ (n : Seen). seenAfter n k) e ∙ ap (λ (b : Bool). cond b (Twice k) (Once k)) (eq-eqb k k refl)
+
+after-twice : (n : ℕ) (t : Types) (k : ℕ) → t .seen ≡ Twice k → 1 ≤ n → running n t k .accepted ≡ PayloadType k
+after-twice zero t k e h = absurd (omega arith)
+after-twice (suc n) t k e h = stays n (judged t k) k (third t k e)
+
+after-once : (n : ℕ) (t : Types) (k : ℕ) → t .seen ≡ Once k → 2 ≤ n → running n t k .accepted ≡ PayloadType k
+after-once zero t k e h = absurd (omega arith)
+after-once (suc n) t k e h = after-twice n (judged t k) k (second t k e) (omega arith)
+
+by-seen : (n : ℕ) (t : Types) (seen : Seen) (k : ℕ) → t .seen ≡ seen → 3 ≤ timesSeen seen k + n → running n t k .accepted ≡ PayloadType k
+by-seen n t Never k e h = accepts-three n t k (omega arith)
+by-seen n t (Once j) k e h = by (eqb j k) refl h
+  where
+    by : (b : Bool) → eqb j k ≡ b → 3 ≤ cond b 1 0 + n → running n t k .accepted ≡ PayloadType k
+    by true same more = after-once n t k (e ∙ ap Once (eqb-true _ _ same)) (omega arith)
+    by false other more = accepts-three n t k (omega arith)
+by-seen n t (Twice j) k e h = by (eqb j k) refl h
+  where
+    by : (b : Bool) → eqb j k ≡ b → 3 ≤ cond b 2 0 + n → running n t k .accepted ≡ PayloadType k
+    by true same more = after-twice n t k (e ∙ ap Twice (eqb-true _ _ same)) (omega arith)
+    by false other more = accepts-three n t k (omega arith)
+
+pub accepts-third : (n : ℕ) (t : Types) (k : ℕ) → 3 ≤ timesSeen (t .seen) k + n → running n t k .accepted ≡ PayloadType k
+accepts-third n t k h = by-seen n t (t .seen) k refl h
 
 -- From a new sink on: what was seen last, of all the types that were judged,
 abbrev lastSeen : List ℕ → Seen

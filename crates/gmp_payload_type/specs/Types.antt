@@ -20,6 +20,13 @@ isLast Never k = false
 isLast (Once j) k = eqb j k
 isLast (Twice j) k = eqb j k
 
+-- how many frames numbered 0 running, the last one among them, had this type: none, one or at least
+-- two
+abbrev pub timesSeen : Seen → ℕ → ℕ
+timesSeen Never k = 0
+timesSeen (Once j) k = cond (eqb j k) 1 0
+timesSeen (Twice j) k = cond (eqb j k) 2 0
+
 -- what was seen last, after one more: another type begins a new run
 abbrev pub seenAfter : Seen → ℕ → Seen
 seenAfter n k = cond (isLast n k) (Twice k) (Once k)
