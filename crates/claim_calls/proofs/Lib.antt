@@ -1,1 +1,2 @@
 mod Observed
+mod Worked

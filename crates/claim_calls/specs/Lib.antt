@@ -2,3 +2,4 @@
 -- Assumes nothing.
 pub mod Observed
 pub mod Lent
+pub mod Worked

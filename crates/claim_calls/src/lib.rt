@@ -1,8 +1,14 @@
-// The calls make the runs that the claims are about, as the contract of a function with an empty
-// body.
+// The calls make the runs that the claims are about, and such lists of calls there are, each as the
+// contract of a function with an empty body.
 ghost use Rattle.claim_calls.specs.Observed.{AsDefined};
+ghost use Rattle.claim_calls.specs.Worked.{WorkedSeen};
 
 // Calls that keep their contracts, one after the other, make the runs that the claims are about.
 pub fn runs_as_defined()
     ensures { λ _. ⌜ AsDefined ⌝ }
+{}
+
+// Worked calls of a source and of two sinks of a card, refused ones among them.
+pub fn worked_calls()
+    ensures { λ _. ⌜ WorkedSeen ⌝ }
 {}

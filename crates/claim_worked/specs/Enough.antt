@@ -1,5 +1,5 @@
--- What demand 3 is used for, with its numbers written out, of one sink. Each of these follows from it,
--- so a weaker demand 3 is noticed here. Assumes nothing.
+-- What demand 3 is used for, with its numbers written out, of one sink. Each of these follows from
+-- it, so a weaker demand 3 is noticed here. Assumes nothing.
 use mathlib.Core.Path.{_≡_}
 use mathlib.Core.Bool.{true, false}
 use mathlib.Core.List.{List, []}

@@ -1,0 +1,41 @@
+-- Observed calls, worked: that such lists of calls there are. A source and two sinks of one card go
+-- on the grid K = 2, as in `claim_worked`, with refused calls among theirs. Assumes nothing.
+use mathlib.Core.Path.{_≡_}
+use mathlib.Core.List.{List, [], _∷_}
+use Rattle.card_tally.specs.declared.Tallies.{Tallies}
+use Rattle.card_tally.specs.Ports.{newTallies}
+use Rattle.gmp_sink.specs.declared.SinkState.{SinkState}
+use Rattle.gmp_sink.specs.Sink.{newSink}
+use Rattle.claim_recovery.specs.Runs.{SourceCall, SinkCall}
+use Rattle.claim_worked.specs.Run.{small, wrong, room, send, source, frame1, frame2, hearOn, lost}
+use Rattle.claim_calls.specs.Observed.{SourceSeen, SinkSeen, SourcePassed, SinkPassed, TalliesPassed, sourceCalls, sinkCalls}
+
+-- a count of 3 and then of 4, and between them a call that number 1 turns back
+abbrev pub sent : List SourceCall
+sent = send small 4 (11 ∷ 12 ∷ 13 ∷ []) ∷ send wrong 4 (11 ∷ 12 ∷ 13 ∷ 14 ∷ []) ∷ send small 6 (21 ∷ 22 ∷ 23 ∷ 24 ∷ []) ∷ []
+
+-- a new sink on port 1, with a call that number 10 turns back, and one with a false count on port 5
+abbrev pub onOne : List SinkCall
+onOne = hearOn 1 small frame1 tt room ∷ hearOn 9 small frame1 tt room ∷ hearOn 1 small frame2 tt room ∷ []
+
+abbrev pub onFive : List SinkCall
+onFive = hearOn 5 small frame2 tt room ∷ []
+
+pub record WorkedSeen : Type 0 where
+  pub source-seen : List SourceSeen
+  pub source-passed : SourcePassed source source-seen
+  pub source-calls : sourceCalls source-seen ≡ sent
+  -- the calls of the two sinks, each with its states passed on
+  pub first : SinkSeen
+  pub refused : SinkSeen
+  pub third : SinkSeen
+  pub other : SinkSeen
+  pub one-end : SinkState
+  pub one-passed : SinkPassed newSink (first ∷ refused ∷ third ∷ []) one-end
+  pub one-calls : sinkCalls (first ∷ refused ∷ third ∷ []) ≡ onOne
+  pub five-end : SinkState
+  pub five-passed : SinkPassed lost (other ∷ []) five-end
+  pub five-calls : sinkCalls (other ∷ []) ≡ onFive
+  -- in turn on one card, whose tallies go through all
+  pub tallies : Tallies
+  pub card-passed : TalliesPassed newTallies (first ∷ other ∷ refused ∷ third ∷ []) tallies
