@@ -37,7 +37,7 @@ syndrome-xor a b c x y z u v =
     ap (bitXor (bitXor c z)) (remainder-xor a b x y (u .0) (u .1) (v .0) (v .1)) ∙ xor-medial c z (remainder a b) (remainder x y)
 
 -- a word with no remainder passes
-none-passes : (a b c : ℕ) → syndrome a b c ≡ 0 → passes a b c ≡ true
+pub none-passes : (a b c : ℕ) → syndrome a b c ≡ 0 → passes a b c ≡ true
 unfolding syndrome passes
 none-passes a b c e = eq-eqb c (remainder a b) (xor-zero-eq c (remainder a b) e)
 

@@ -4,7 +4,8 @@ use mathlib.Core.Bool.{Bool, true, cond}
 use Prim.Native.Nat.{ℕ, _≤_, _<_}
 use Rattle.gmp_crc8.specs.declared.Reading.{Reading}
 use Rattle.gmp_crc8.specs.declared.Reading.the-variants.{Whole, Mended, Bad}
-use Rattle.gmp_crc8.specs.Check.{passes, wrongBits}
+use Rattle.gmp_crc8.specs.Division.{divide}
+use Rattle.gmp_crc8.specs.Check.{passes, syndrome, word, wrongBits}
 use Rattle.gmp_crc8.specs.Reading.{readWord, oneBit, readAs}
 
 -- how many wrong bits the check is trusted with: "two wrong bits a frame, no longer three", where
@@ -38,6 +39,14 @@ pub record MendsOneBit : Type 0 where
       → wrongBits a b c x y z ≡ 1 → readAs true x y z ≡ Mended (readWord a b)
   pub two : (a b c x y z : ℕ) → Bytes a b c → Bytes x y z → passes a b c ≡ true
       → wrongBits a b c x y z ≡ 2 → readAs true x y z ≡ Bad
+
+-- The syndrome of three bytes is the remainder of their 24 bits as read, by long division, and the
+-- word passes if and only if it is zero (clause 17.7.1: "In the absence of bit errors, the
+-- remainder shall be 0000 0000").
+pub record SyndromeDivides : Type 0 where
+  pub divided : (x y z : ℕ) → Bytes x y z → syndrome x y z ≡ divide 0 (word x y z)
+  pub zero-passes : (x y z : ℕ) → Bytes x y z → syndrome x y z ≡ 0 → passes x y z ≡ true
+  pub passes-zero : (x y z : ℕ) → Bytes x y z → passes x y z ≡ true → syndrome x y z ≡ 0
 
 -- No two of the 24 bits have one remainder, and none has that of a word that passes.
 pub record BitsToldApart : Type 0 where

@@ -1,7 +1,7 @@
 // The check word, CRC-8 over JC1 and JC2, and what a control word reads as: whole, mended or bad;
 // and what the check holds against wrong bits. The code that checks and reads is in the crate
 // gmp_crc8_read.
-ghost use Rattle.gmp_crc8.specs.Claims.{ReadsAsItself, MendsOneBit, BitsToldApart};
+ghost use Rattle.gmp_crc8.specs.Claims.{ReadsAsItself, MendsOneBit, SyndromeDivides, BitsToldApart};
 
 // JC1 and JC2 of a control word that was read.
 pub struct ReadWord {
@@ -26,6 +26,11 @@ pub fn reads_as_itself()
 // wrong it is mended to itself, and with two it is bad.
 pub fn mends_one_bit()
     ensures { λ _. ⌜ MendsOneBit ⌝ }
+{}
+
+// The syndrome is the remainder of the 24 bits as read, and zero if and only if they pass.
+pub fn syndrome_divides()
+    ensures { λ _. ⌜ SyndromeDivides ⌝ }
 {}
 
 // The remainders of one wrong bit are told apart, from each other and from zero.

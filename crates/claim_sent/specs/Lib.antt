@@ -1,0 +1,2 @@
+-- How many client bytes a source sends. Assumes nothing.
+pub mod Sent
