@@ -1,0 +1,5 @@
+mod Named
+mod Sources
+mod Sinks
+mod Keepers
+mod Claimed
