@@ -3,7 +3,7 @@ use mathlib.Core.Path.{refl}
 use mathlib.Core.Bool.{xor}
 use Rattle.math.specs.Bits.{bits, differing}
 use Rattle.gmp_crc8.specs.Division.{reduce, divide}
-use Rattle.gmp_crc8.specs.Check.{remainder, passes, word}
+use Rattle.gmp_crc8.specs.Check.{remainder, passes, word, wrongBits}
 use Rattle.gmp_crc8.specs.Reading.{readAs}
 use Rattle.gmp_settings.specs.Settings.{outside}
 use Rattle.gmp_standing.specs.Known.{inWindow}
@@ -11,7 +11,7 @@ use Rattle.gmp_control.specs.Word.{equalIndicators}
 use Rattle.gmp_control.specs.Pattern.{tableOf}
 use Rattle.gmp_control.specs.Follow.{usable, tracked, candidate, paired, reading, foundBy}
 use Rattle.gmp_places.specs.Places.{places, chosen}
-use Rattle.gmp_frame.specs.Frame.{columns, payload, clientBytes, controlOf}
+use Rattle.gmp_frame.specs.Frame.{columns, payload, clientBytes, controlOf, psiOf}
 use Rattle.gmp_payload_type.specs.Types.{judged, typesAfter, gateOpen}
 use Rattle.gmp_sink.specs.Sink.{sinkRefusal, handed, released, standingAfter, stateAfter, sinkAnswer, sinkState, sinkHanded, sinkOut}
 use Rattle.claim_recovery.specs.Runs.{sinkSteps, sinkEnd}
@@ -19,7 +19,7 @@ use Rattle.claim_recovery.specs.Tallied.{bytesOf}
 use Rattle.claim_worked.specs.Typed.{TypedRun}
 
 pub typed-run : TypedRun
-unfolding sinkSteps sinkEnd remainder divide reduce bits outside sinkRefusal sinkAnswer sinkState sinkHanded sinkOut released gateOpen typesAfter judged handed standingAfter stateAfter controlOf foundBy reading inWindow usable tracked candidate paired equalIndicators passes readAs clientBytes chosen payload columns places word differing xor tableOf bytesOf
+unfolding sinkSteps sinkEnd remainder divide reduce bits outside sinkRefusal sinkAnswer sinkState sinkHanded sinkOut released gateOpen typesAfter judged handed standingAfter stateAfter controlOf foundBy reading inWindow usable tracked candidate paired equalIndicators passes readAs clientBytes chosen payload columns places word differing xor tableOf bytesOf psiOf wrongBits
 typed-run =
     record {
       right-answers = refl;

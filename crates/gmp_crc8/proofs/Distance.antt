@@ -95,7 +95,7 @@ near (false ∷ xs) (true ∷ ys) r l hr t h e =
 
 -- what is left of the 24 bits is the remainder of the three bytes as read
 pub divided : (a b c : ℕ) → c < 256 → divide 0 (word a b c) ≡ syndrome a b c
-unfolding remainder syndrome word
+unfolding remainder syndrome word wrongBits
 divided a b c hc =
     split c ∙ divide-byte r c (divide-lt (bits b) (divide 0 (bits a)) (divide-lt (bits a) 0 (lit< tt))) hc
     ∙ xor-comm (divide r (bits 0)) c ∙ ap (bitXor c) (sym (split 0))
@@ -116,7 +116,7 @@ bits-same a b ha hb e = sym (divide-bits a ha) ∙ ap (divide 0) e ∙ divide-bi
 
 pub distance : (a b c x y z : ℕ) → (a < 256) × (b < 256) × (c < 256) → (x < 256) × (y < 256) × (z < 256)
     → T (passes a b c) → T (passes x y z) → wrongBits a b c x y z ≤ most → (x ≡ a) × (y ≡ b) × (z ≡ c)
-unfolding bits word
+unfolding bits word wrongBits
 distance a b c x y z u v p q h =
     let e : word a b c ≡ word x y z =
     near (word a b c) (word x y z) 0 tt (lit< tt) apart-24 h

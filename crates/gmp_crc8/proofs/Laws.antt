@@ -12,7 +12,7 @@ use Rattle.gmp_crc8.specs.declared.ReadWord.{ReadWord}
 use Rattle.gmp_crc8.specs.declared.Reading.{Reading}
 use Rattle.gmp_crc8.specs.declared.Reading.the-variants.{Whole, Mended, Bad}
 use Rattle.gmp_crc8.specs.Check.{remainder, passes, syndrome, word, wrongBits}
-use Rattle.gmp_crc8.specs.Reading.{readWord, bitIn, mended, readAs}
+use Rattle.gmp_crc8.specs.Reading.{readWord, bitIn, flipped, mended, readAs}
 use Rattle.gmp_crc8.specs.Claims.{budget, Bytes, IsOrBad, ReadsAsItself, MendsOneBit, BitsToldApart}
 use Rattle.gmp_crc8.proofs.Linear.{divide-lt}
 use Rattle.gmp_crc8.proofs.Distance.{Same, most, passed-none, distance}
@@ -70,7 +70,7 @@ triangle (x ∷ xs) (y ∷ ys) [] k l = absurd l
 triangle (x ∷ xs) (y ∷ ys) (z ∷ zs) k l = omega (arith, xor-triangle x y z, triangle xs ys zs k l)
 
 over : (a b c x y z p q r : ℕ) → wrongBits a b c p q r ≤ wrongBits a b c x y z + wrongBits x y z p q r
-unfolding bits word
+unfolding bits word wrongBits
 over a b c x y z p q r = triangle (word a b c) (word x y z) (word p q r) tt tt
 
 differing-self : (xs : List Bool) → differing xs xs ≡ 0
@@ -96,6 +96,7 @@ same-words a b x y e f = ap (λ (k : ℕ). readWord k y) e ∙ ap (readWord a) f
 module _ (a b c x y z : ℕ) (u : Bytes a b c) (v : Bytes x y z) (p : passes a b c ≡ true) where
   -- the same bytes differ in no bit
   same-bits : (x ≡ a) × (y ≡ b) × (z ≡ c) → wrongBits a b c x y z ≡ 0
+  unfolding wrongBits
   same-bits s =
       ap (λ (k : ℕ). wrongBits a b c k y z) (s .0) ∙ ap (λ (k : ℕ). wrongBits a b c a k z) (s .1)
       ∙ ap (λ (k : ℕ). wrongBits a b c a b k) (s .2) ∙ differing-self (word a b c)
@@ -108,6 +109,7 @@ module _ (a b c x y z : ℕ) (u : Bytes a b c) (v : Bytes x y z) (p : passes a b
 
   -- where it is mended, with at most two wrong bits, it is the word, and one bit is wrong
   mended-same : (w : ReadWord) → wrongBits a b c x y z ≤ 2 → mended x y (syndrome x y z) ≡ Mended w → (w ≡ readWord a b) × (wrongBits a b c x y z ≡ 1)
+  unfolding wrongBits flipped
   mended-same w h e =
       let f = mended-found x y (syndrome x y z) w e in
       let i : ℕ = bitXor x (bitIn 0 (f .0)) in

@@ -65,7 +65,7 @@ differing-append (x ∷ xs) [] us vs s = absurd s
 differing-append (x ∷ xs) (y ∷ ys) us vs s = let later = differing-append xs ys us vs s in omega arith
 
 wrong-by-bytes : (a b c x y z : ℕ) → wrongBits a b c x y z ≡ differing (bits a) (bits x) + (differing (bits b) (bits y) + differing (bits c) (bits z))
-unfolding bits word
+unfolding bits word wrongBits
 wrong-by-bytes a b c x y z =
     differing-append (bits a) (bits x) (bits b ++ bits c) (bits y ++ bits z) tt
     ∙ ap (λ (n : ℕ). differing (bits a) (bits x) + n) (differing-append (bits b) (bits y) (bits c) (bits z) tt)
@@ -105,7 +105,7 @@ pub record FlippedWord (x y z bit : ℕ) : Type 0 where
   pub one : wrongBits x y z (bitXor x (bitIn 0 bit)) (bitXor y (bitIn 1 bit)) (bitXor z (bitIn 2 bit)) ≡ 1
 
 pub flipped-word : (x y z bit : ℕ) → Bytes x y z → bit < 24 → oneBit bit ≡ syndrome x y z → FlippedWord x y z bit
-unfolding oneBit
+unfolding oneBit bitIn
 flipped-word x y z bit u h e =
     let f = flips x y z u (bit / 8) (bit % 8) (omega arith) (omega arith) in
     let v = f .bytes in
@@ -250,12 +250,12 @@ lone (false ∷ xs) (true ∷ ys) r l h e = (
 
 -- the remainder of one wrong bit, n digits before the end: one test of the 24 bits
 from-end : (n : ℕ) → n < 24 → oneBit (23 - n) ≡ steps n 1
-unfolding oneBit syndrome remainder divide bits reduce steps
+unfolding oneBit syndrome remainder divide bits reduce steps bitIn
 from-end = agree-below (λ n. oneBit (23 - n)) (λ n. steps n 1) 24 tt
 
 -- A word that passes, read with one wrong bit, has the remainder of that bit.
 pub one-wrong-found : (a b c x y z : ℕ) → Bytes a b c → Bytes x y z → syndrome a b c ≡ 0 → wrongBits a b c x y z ≡ 1 → (j : ℕ) × (j < 24) × (oneBit j ≡ syndrome x y z)
-unfolding bits word
+unfolding bits word wrongBits
 one-wrong-found a b c x y z u v p h =
     let f = lone (word a b c) (word x y z) 0 tt (lit< tt) h in
     let n : ℕ = f .0 in
@@ -273,7 +273,7 @@ alike (true ∷ xs) (false ∷ ys) l e = absurd (omega arith)
 alike (false ∷ xs) (true ∷ ys) l e = absurd (omega arith)
 
 pub none-wrong : (a b c x y z : ℕ) → Bytes a b c → Bytes x y z → syndrome a b c ≡ 0 → wrongBits a b c x y z ≡ 0 → passes x y z ≡ true
-unfolding bits word
+unfolding bits word wrongBits
 none-wrong a b c x y z u v p h =
     none-passes x y z (sym (divided x y z (v .2)) ∙ ap (divide 0) (sym (alike (word a b c) (word x y z) tt h)) ∙ divided a b c (u .2) ∙ p)
 
@@ -282,7 +282,7 @@ apart : ℕ → ℕ → Bool
 apart i j = eqb i j || not (eqb (oneBit i) (oneBit j))
 
 apart-at : (i j : ℕ) → i < 24 → j < 24 → T (apart i j)
-unfolding apart oneBit syndrome remainder divide bits reduce
+unfolding apart oneBit syndrome remainder divide bits reduce bitIn
 apart-at i j hi hj = at-below (λ y. apart i y) 24 (at-below (λ x. below (λ y. apart x y) 24) 24 tt i hi) j hj
 
 pub distinct : (i j : ℕ) → i < 24 → j < 24 → oneBit i ≡ oneBit j → i ≡ j
@@ -295,7 +295,7 @@ distinct i j hi hj e = by (eqb i j) refl (apart-at i j hi hj)
 
 -- and none is zero: one test of the 24
 pub not-zero : (i : ℕ) → i < 24 → oneBit i ≡ 0 → ⊥
-unfolding oneBit syndrome remainder divide bits reduce
+unfolding oneBit syndrome remainder divide bits reduce bitIn
 not-zero i h e =
     let t = at-below (λ k. not (eqb (oneBit k) 0)) 24 tt i h in
     subst (λ (b : Bool). T (not b)) (eq-eqb (oneBit i) 0 e) t

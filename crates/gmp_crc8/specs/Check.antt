@@ -26,5 +26,5 @@ unfoldable pub word : ℕ → ℕ → ℕ → List Bool
 word jc1 jc2 jc3 = bits jc1 ++ (bits jc2 ++ bits jc3)
 
 -- the number of bits of JC1 to JC3, of 24, that differ from the written ones
-abbrev pub wrongBits : (a b c x y z : ℕ) → ℕ
+unfoldable pub wrongBits : (a b c x y z : ℕ) → ℕ
 wrongBits a b c x y z = differing (word a b c) (word x y z)

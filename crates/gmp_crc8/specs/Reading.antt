@@ -13,7 +13,7 @@ readWord jc1 jc2 = record { jc1 = jc1; jc2 = jc2 }
 
 -- "the 24": the bits of JC1 to JC3 are numbered 0 to 23, most significant first. In byte 0, 1 or 2
 -- such a bit is one of the byte's eight, or nothing.
-abbrev pub bitIn : ℕ → ℕ → ℕ
+unfoldable pub bitIn : ℕ → ℕ → ℕ
 bitIn byte bit = cond (eqb (bit / 8) byte) (128 / 2 ^ (bit % 8)) 0
 
 -- "that of one wrong bit among the 24": the remainder of a word in which this bit alone is set
@@ -21,7 +21,7 @@ unfoldable pub oneBit : ℕ → ℕ
 oneBit bit = syndrome (bitIn 0 bit) (bitIn 1 bit) (bitIn 2 bit)
 
 -- the word with that bit flipped: a bit of JC3 is none of the word's
-abbrev pub flipped : ℕ → ℕ → ℕ → ReadWord
+unfoldable pub flipped : ℕ → ℕ → ℕ → ReadWord
 flipped jc1 jc2 bit = readWord (bitXor jc1 (bitIn 0 bit)) (bitXor jc2 (bitIn 1 bit))
 
 -- the first of so many bits from this one on that alone is wrong where this is the remainder, or

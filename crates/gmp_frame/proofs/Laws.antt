@@ -31,6 +31,7 @@ control-written k client control psi =
 
 -- and so is the PSI byte
 pub psi-written : (k : ℕ) (client : List ℕ) (control : Control) (psi : ℕ) → psiOf k (frame k client control psi) ≡ psi
+unfolding psiOf
 psi-written k client control psi = first (row3 k client control psi) (3 * k + 6) (omega arith)
 
 -- "what was written is what is taken out"
@@ -69,6 +70,7 @@ others-client k C bytes bytes′ e h =
 
 -- nor does the PSI byte
 pub others-psi : (k : ℕ) (bytes bytes′ : List ℕ) → OthersSame k bytes bytes′ → psiOf k bytes ≡ psiOf k bytes′
+unfolding psiOf
 others-psi k bytes bytes′ h = h (3 * k + 6) (λ z. omega arith) (λ z. omega arith) (λ z. omega arith)
 
 -- as many client bytes are taken out of a frame as the count says

@@ -39,7 +39,7 @@ unfoldable pub controlOf : ℕ → List ℕ → Control
 controlOf k bytes = record { jc1 = getD bytes 1 0; jc2 = getD bytes (k + 3) 0; jc3 = getD bytes (2 * k + 5) 0 }
 
 -- the PSI byte of a frame: "The first byte of row 4" (zero where the frame is too short to have it)
-abbrev pub psiOf : ℕ → List ℕ → ℕ
+unfoldable pub psiOf : ℕ → List ℕ → ℕ
 psiOf k bytes = getD bytes (3 * k + 6) 0
 
 -- two frames have the same bytes, JC1 to JC3 apart

@@ -3,7 +3,7 @@ use mathlib.Core.Path.{ap₂}
 use Prim.Native.Nat.{ℕ}
 use lib.Bits.{bitXor}
 use borrow.Author.Needs.{needs}
-use Rattle.gmp_crc8.specs.Reading.{readWord}
+use Rattle.gmp_crc8.specs.Reading.{readWord, flipped}
 use Rattle.gmp_crc8_read.proofs.flip.Statement.{statement}
 use Rattle.gmp_crc8_read.proofs.flip.Tie as tie
 
@@ -14,6 +14,7 @@ bit-in-requires-2 : tie.Need-bit-in-requires-2
 bit-in-requires-2 c κs = search needs
 
 returns : tie.Need-returns
+unfolding flipped
 returns c =
     let g = c .before .before .args in
     ap₂ (λ (a b : ℕ). readWord (bitXor (g .jc1) a) (bitXor (g .jc2) b)) (c .before .bit-in .ensures) (c .bit-in2 .ensures)

@@ -6,7 +6,7 @@ use Rattle.math.specs.Bits.{bits}
 use Rattle.math.specs.Finite.{agree-below, agree-goal}
 use Rattle.gmp_crc8.specs.Division.{reduce, divide}
 use Rattle.gmp_crc8.specs.Check.{remainder, syndrome}
-use Rattle.gmp_crc8.specs.Reading.{oneBit}
+use Rattle.gmp_crc8.specs.Reading.{bitIn, oneBit}
 use Rattle.gmp_crc8_read.proofs.one_bit.Statement.{statement}
 use Rattle.gmp_crc8_read.proofs.one_bit.Tie as tie
 
@@ -14,7 +14,7 @@ array-read-result : tie.Need-array-read-result
 array-read-result c = search needs
 
 returns : tie.Need-returns
-unfolding oneBit syndrome remainder divide bits reduce
+unfolding oneBit bitIn syndrome remainder divide bits reduce
 returns c = agree-goal _ oneBit 24 (c .args .bit) (search needs) (λ agree k h e. rw e (agree k h)) (agree-below _ oneBit 24 tt)
 
 pub one-bit-spec : {M : Type 1} → statement M
