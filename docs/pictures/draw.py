@@ -29,9 +29,9 @@ BYTES = "#2f6fb0"
 
 # The groups of crates from the top down: title, colour, and the names or prefixes of its crates.
 GROUPS = [
+    ("Claims over whole runs", "#f9d9d4", ("claim_",)),
     ("Programs", "#dcefd8", ("sinkshow", "odu0map", "odu0demap", "program_")),
     ("The interface for C and Rust", "#e7dcf3", ("c_",)),
-    ("Claims over whole runs", "#f9d9d4", ("claim_",)),
     ("The card: the sink with a tally for each port", "#d5edec", ("card_",)),
     ("The generic mapper", CLIENT, ("gmp_",)),
     ("The floor", OVER, ("math", "refusals")),

@@ -57,9 +57,9 @@ shared-is : (p q r : ℕ) (seen : List KeeperSeen) → KeeperPassed r seen → K
 unfolding SharedRate
 shared-is p q r [] h s = tt
 shared-is p q r (x ∷ xs) h s = (
-    (λ a. s .0 (taken-is r x (h .0) a)),
-    subst (λ (k : KeeperReply). SharedRate p q (k .remainder) (keeperCalls xs)) (reply-is r x (h .0)) (shared-is p q (x .reply .remainder) xs (h .1) (s .1)),
-  )
+  (λ a. s .0 (taken-is r x (h .0) a)),
+  subst (λ (k : KeeperReply). SharedRate p q (k .remainder) (keeperCalls xs)) (reply-is r x (h .0)) (shared-is p q (x .reply .remainder) xs (h .1) (s .1)),
+)
 
 pub nearest-is : (p q : ℕ) (seen : List KeeperSeen) → 0 < q → KeeperPassed (firstRemainder q) seen → KeeperShares p q seen
     → Nearest (length (keeperCounts seen)) p q (sum (keeperCounts seen))

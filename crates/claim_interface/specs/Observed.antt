@@ -1,6 +1,6 @@
 -- Runs as a caller of the C interface sees them: of each call the numbers that it was given, those
--- that it returned, and what it left in the lent buffers. All that is known of a call is the promise
--- of its contract. Such runs are those that the claims are about. Assumes nothing.
+-- that it returned, and what it left in the lent buffers. All that is known of a call is the
+-- promise of its contract. Such runs are those that the claims are about. Assumes nothing.
 use mathlib.Core.Path.{_≡_}
 use mathlib.Core.Bool.{Bool, true, cond}
 use mathlib.Core.List.{List, [], _∷_, _++_}
