@@ -1,5 +1,5 @@
 -- What an accepted call of the sink knows, and the cases of its definitions. Assumes nothing.
-use mathlib.Core.Path.{_≡_, refl, sym, ap, ap₂, _∙_, subst, subst⁻¹}
+use mathlib.Core.Path.{_≡_, refl, sym, ap, ap₂, _∙_, subst⁻¹}
 use mathlib.Core.Bool.{Bool, true, false, true≢false, not, cond}
 use mathlib.Core.List.{List, [], _++_}
 use Prim.Native.Nat.{ℕ, _≤_}
@@ -15,10 +15,10 @@ use Rattle.gmp_crc8.specs.Reading.{readWord, readAs}
 use Rattle.gmp_crc8.proofs.Laws.{off-by-check}
 use Rattle.gmp_settings.specs.declared.Settings.{Settings}
 use Rattle.gmp_refusal.specs.declared.Refusal.{Refusal}
-use Rattle.gmp_settings.specs.Grid.{payloadBytes, frameBytes}
+use Rattle.gmp_settings.specs.Grid.{frameBytes}
 use Rattle.refusals.specs.Table.{accepted, refused, answerBy}
 use Rattle.gmp_refusal.specs.Refusal.{refusalNumber}
-use Rattle.gmp_settings.specs.Settings.{withTypeCheck, outside}
+use Rattle.gmp_settings.specs.Settings.{Fit, withTypeCheck, outside}
 use Rattle.gmp_settings.specs.Patterns.{badPatterns}
 use Rattle.gmp_port.specs.Port.{badPort}
 use Rattle.refusals.proofs.Laws.{none-applies}
@@ -35,8 +35,7 @@ use Rattle.gmp_control.specs.Follow.{usable, reading, windowedBy, windowed, fou
 use Rattle.gmp_control.specs.Pattern.{tableOf}
 use Rattle.gmp_control.proofs.Named.{never-bad-check}
 use Rattle.gmp_frame.specs.declared.Control.{Control}
-use Rattle.gmp_frame.specs.Frame.{controlOf, psiOf, clientBytes, clientTaken}
-use Rattle.gmp_frame.proofs.Laws.{length-client, taken-fits}
+use Rattle.gmp_frame.specs.Frame.{controlOf, psiOf, clientBytes}
 use Rattle.gmp_payload_type.specs.declared.Types.{Types}
 use Rattle.gmp_payload_type.specs.declared.Expected.{Expected}
 use Rattle.gmp_payload_type.specs.Types.{typesAfter, gateOpen}
@@ -44,7 +43,15 @@ use Rattle.gmp_payload_type.proofs.Laws.{open-off, types-off}
 use Rattle.gmp_sink.specs.declared.SinkState.{SinkState}
 use Rattle.gmp_sink.specs.declared.SinkAnswer.the-variants.{Done, Refused}
 use Rattle.gmp_sink.specs.declared.SinkResult.{SinkResult}
-use Rattle.gmp_sink.specs.Sink.{newSink, sinkReasons, sinkRefusal, handed, released, readingOf, standingBy, standingAfter, wordAfter, stateAfter, withTypes, frameAfter, isMended, mendedIn, answerMeaning, sinkAnswer, sinkState, sinkMended, sinkHanded, sinkOut, SinkPromise, UncheckedAsBefore, CountsFollowed, AnyPort, Accepted, AcceptedPromise, HandsOut, OffAsBefore}
+use Rattle.gmp_sink.specs.Sink.{newSink, sinkReasons, sinkRefusal, handed, released, readingOf, standingBy, standingAfter, wordAfter, stateAfter, withTypes, frameAfter, isMended, mendedIn, answerMeaning, sinkAnswer, sinkState, sinkMended, sinkHanded, sinkOut, SinkPromise, UncheckedAsBefore, CountsFollowed, AnyPort, OffAsBefore}
+
+-- What is known of a call that no number turns back. Its port is not among it: nothing that is done
+-- then looks at the port.
+pub record Accepted (s : Settings) (frameLength outLength : ℕ) : Type 0 where
+  pub fit : Fit s
+  pub frame : frameLength ≡ frameBytes (s .k)
+  pub space : s .hi ≤ outLength
+  pub patterns : badPatterns s ≡ false
 
 -- a call that no number turns back, and its port
 accepted-all : (s : Settings) (f o p : ℕ) → sinkRefusal s f o p ≡ 0 → Accepted s f o × (badPort p ≡ false)
@@ -201,43 +208,11 @@ module _ (s : Settings) (z : SinkState) (c : Control) where
   unfolding stateAfter
   count-after = refl
 
--- what the code of `hand_out` comes to, where a count n is known
-pub hands-out : (s : Settings) (z : SinkState) (frame out : List ℕ) (n : ℕ) (after : List ℕ) → Accepted s (length frame) (length out)
-    → inWindow s (z .count) ≡ Known n → after ≡ clientTaken (s .k) n frame out → HandsOut (handed s z frame) out n after
-hands-out s z frame out n after a known e =
-    let le = known-le s (z .count) n known in
-    let fits : n ≤ payloadBytes (s .k) = omega (arith, a .fit .within) in
-    let room : n ≤ length out = omega (arith, a .space) in
-    let same = length-client (s .k) n frame fits (a .frame) in
-    let h = handed-known s z frame n known in
-    record {
-      length-is = sym (ap length h ∙ same);
-      buffer = e ∙ taken-fits (s .k) n frame out (a .frame) fits room ∙ sym (rw (h, same));
-    }
-
--- and what that of `take_accepted` comes to, where b says whether the gate is open
-pub hands-released : (s : Settings) (z : SinkState) (w : Expected) (frame out : List ℕ) (b : Bool) (n : ℕ) (after : List ℕ)
-    → b ≡ gateOpen (s .«type_check») (z .types) w → HandsOut (cond b (handed s z frame) []) out n after → HandsOut (released s z w frame) out n after
-unfolding released
-hands-released s z w frame out b n after e h = subst (λ (c : Bool). HandsOut (cond c (handed s z frame) []) out n after) e h
-
 -- a state by its three parts
 pub state-of-parts : (count : Count) (word : Remembered) (types : Types) (x : SinkState) → count ≡ x .count → word ≡ x .word → types ≡ x .types
     → record { count = count; word = word; types = types } ≡ x
 state-of-parts count word types x e f g =
     ap₂ (λ (c : Count) (w : Remembered). record { count = c; word = w; types = types }) e f ∙ ap (withTypes x) g
-
--- what a call that no number turns back promises is what the sink's call does
-pub promise-accepted : (s : Settings) (z : SinkState) (w : Expected) (frame out : List ℕ) (p : ℕ) (r : SinkResult) (after : List ℕ)
-    → sinkRefusal s (length frame) (length out) p ≡ 0 → AcceptedPromise s z w frame out r after → SinkPromise s z w frame out p r after
-promise-accepted s z w frame out p r after none a =
-    record {
-      answer = a .answer ∙ sym (answer-accepted s z frame out p none);
-      state = a .state ∙ sym (state-accepted s z frame w out p none);
-      handed-bytes = a .hands .length-is ∙ sym (ap length (handed-accepted s z frame w out p none));
-      mended = a .mended ∙ sym (mended-accepted s z frame out p none);
-      out-buffer = a .hands .buffer ∙ sym (out-accepted s z frame w out p none);
-    }
 
 -- A call that no number turns back is not refused, and its standing is what the control bytes lead
 -- to.

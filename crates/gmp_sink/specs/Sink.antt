@@ -4,10 +4,9 @@
 use mathlib.Core.Path.{_≡_}
 use mathlib.Core.Bool.{Bool, true, false, not, cond}
 use mathlib.Core.List.{List, [], _∷_, _++_}
-use Prim.Native.Nat.{ℕ, _≤_}
+use Prim.Native.Nat.{ℕ}
 use lib.Dec.{eqb, ltb}
 use lib.ListN.{length, drop}
-use Rattle.gmp_crc8.specs.declared.ReadWord.{ReadWord}
 use Rattle.gmp_crc8.specs.declared.Reading.{Reading}
 use Rattle.gmp_crc8.specs.declared.Reading.the-variants.{Whole, Mended, Bad}
 use Rattle.gmp_crc8.specs.Check.{passes}
@@ -16,7 +15,7 @@ use Rattle.gmp_settings.specs.declared.Settings.{Settings}
 use Rattle.gmp_settings.specs.Grid.{frameBytes}
 use Rattle.refusals.specs.Table.{Reason, reason, lowest, Answer, accepted, refused, answerBy}
 use Rattle.gmp_refusal.specs.Refusal.{refusalNumber}
-use Rattle.gmp_settings.specs.Settings.{Fit, settingsReasons, withTypeCheck}
+use Rattle.gmp_settings.specs.Settings.{settingsReasons, withTypeCheck}
 use Rattle.gmp_settings.specs.Patterns.{badPatterns}
 use Rattle.gmp_port.specs.Port.{badPort}
 use Rattle.gmp_standing.specs.declared.Count.{Count}
@@ -26,7 +25,7 @@ use Rattle.gmp_standing.specs.Known.{inWindow}
 use Rattle.gmp_control.specs.declared.Remembered.{Remembered}
 use Rattle.gmp_control.specs.declared.Remembered.the-variants.{Word, Nothing}
 use Rattle.gmp_control.specs.Word.{wordBy}
-use Rattle.gmp_control.specs.Follow.{usable, found, Follows}
+use Rattle.gmp_control.specs.Follow.{usable, found}
 use Rattle.gmp_frame.specs.declared.Control.{Control}
 use Rattle.gmp_frame.specs.Frame.{clientBytes, controlOf, psiOf}
 use Rattle.gmp_payload_type.specs.declared.Types.{Types}
@@ -36,7 +35,6 @@ use Rattle.gmp_sink.specs.declared.SinkState.{SinkState}
 use Rattle.gmp_sink.specs.declared.SinkAnswer.{SinkAnswer}
 use Rattle.gmp_sink.specs.declared.SinkAnswer.the-variants.{Done, Refused}
 use Rattle.gmp_sink.specs.declared.SinkResult.{SinkResult}
-use Rattle.gmp_sink.specs.declared.Heard.{Heard}
 
 -- "a known count or none, and a remembered word or none; a new sink has neither", and it has
 -- accepted no payload type (02, P4)
@@ -192,35 +190,3 @@ pub record AnyPort : Type 0 where
   pub mended : (s : Settings) (frame out : List ℕ) (p q : ℕ) → badPort p ≡ badPort q → sinkMended s frame out p ≡ sinkMended s frame out q
   pub handed-bytes : (s : Settings) (z : SinkState) (e : Expected) (frame out : List ℕ) (p q : ℕ) → badPort p ≡ badPort q → sinkHanded s z e frame out p ≡ sinkHanded s z e frame out q
   pub out-buffer : (s : Settings) (z : SinkState) (e : Expected) (frame out : List ℕ) (p q : ℕ) → badPort p ≡ badPort q → sinkOut s z e frame out p ≡ sinkOut s z e frame out q
-
--- What is known of a call that no number turns back. Its port is not among it: nothing that is done
--- then looks at the port.
-pub record Accepted (s : Settings) (frameLength outLength : ℕ) : Type 0 where
-  pub fit : Fit s
-  pub frame : frameLength ≡ frameBytes (s .k)
-  pub space : s .hi ≤ outLength
-  pub patterns : badPatterns s ≡ false
-
--- The parts of such a call: bytes handed out at the start of a buffer, with their number;
-pub record HandsOut (bytes out : List ℕ) (r : ℕ) (after : List ℕ) : Type 0 where
-  pub length-is : r ≡ length bytes
-  pub buffer : after ≡ bytes ++ drop (length bytes) out
-
--- what a word that was read leads to;
-pub record HearsWord (s : Settings) (z : SinkState) (w : ReadWord) (mended : Bool) (r : Heard) : Type 0 where
-  pub follows : Follows s (z .count) (z .word) (wordBy (w .jc1) (w .jc2)) (r .followed)
-  pub told : r .mended ≡ mended
-
--- and what the control bytes lead to.
-pub record ReadsControl (s : Settings) (z : SinkState) (c : Control) (r : Heard) : Type 0 where
-  pub standing : standingMeaning (r .followed .standing) ≡ standingAfter s z c
-  pub count : r .followed .count ≡ stateAfter s z c .count
-  pub word : r .followed .word ≡ stateAfter s z c .word
-  pub mended : r .mended ≡ mendedIn s c
-
--- What the whole call promises.
-pub record AcceptedPromise (s : Settings) (z : SinkState) (e : Expected) (frame out : List ℕ) (r : SinkResult) (after : List ℕ) : Type 0 where
-  pub answer : answerMeaning (r .answer) ≡ accepted (standingAfter s z (controlOf (s .k) frame))
-  pub state : r .state ≡ frameAfter s z e frame
-  pub mended : r .mended ≡ mendedIn s (controlOf (s .k) frame)
-  pub hands : HandsOut (released s z e frame) out (r .handed) after

@@ -7,11 +7,18 @@ use gmp_sink::SinkAnswer;
 use gmp_sink::SinkResult;
 use gmp_sink::SinkState;
 use gmp_standing::Count;
-ghost use mathlib.Core.Path.{_≡_};
-ghost use mathlib.Core.Bool.{cond};
-ghost use mathlib.Core.List.{[]};
 ghost use lib.ListN.{length};
-ghost use Rattle.gmp_sink.specs.Sink.{handed, Accepted, AcceptedPromise, HandsOut, SinkPromise};
+ghost use Rattle.gmp_sink.specs.Sink.{handed, released, SinkPromise};
+ghost use Rattle.gmp_sink.proofs.Laws.{Accepted};
+ghost use Rattle.gmp_sink_call.specs.Parts.{HandsOut, ReadsFrame, AcceptedPromise};
+
+// What a frame leads to: the answer, the state to go on from, and whether a wrong control bit was
+// mended.
+struct FrameRead {
+    answer: SinkAnswer,
+    state: SinkState,
+    mended: bool,
+}
 
 // Takes a frame of this port, told its multiframe number and the payload type that is expected. A
 // refused call returns the state that it was given and leaves the output buffer as it was.
@@ -37,8 +44,8 @@ pub fn take_frame(
     }
 }
 
-// The same where nothing is refused, whatever the port. The count and the payload type that were
-// known before the frame say which bytes are handed out.
+// The same if nothing is refused, whatever the port. First the client bytes are handed out, by the
+// count and the payload type that were known before the frame, and then the frame is read.
 fn take_accepted(
     settings: Settings,
     state: SinkState,
@@ -49,35 +56,31 @@ fn take_accepted(
     requires { ⌜ Accepted settings (length (now frame)) (length (now out)) ⌝ }
     ensures { λ r. ⌜ AcceptedPromise settings state expected (now (frame .entry)) (now (out .entry)) r (now (out .exit)) ⌝ }
 {
-    let control = gmp_frame::control_of(frame, settings.k);
-    let heard = gmp_sink_control::read_control(settings, state, control);
-    let followed = heard.followed;
-    let standing = followed.standing;
-    let count = followed.count;
-    let word = followed.word;
-    let psi = gmp_frame::psi_of(frame, settings.k);
-    let before = state.types;
-    let types = gmp_payload_type::read_psi(settings.type_check, before, expected, psi);
-    let after = SinkState {
-        count: count,
-        word: word,
-        types: types,
-    };
-    let is_open = gmp_payload_type::gate_open(settings.type_check, before, expected);
-    let handed = release(settings, state, is_open, frame, out);
+    let handed = release(settings, state, expected, frame, out);
+    let read = read_frame(settings, state, expected, frame);
+    let answer = read.answer;
+    let after = read.state;
     SinkResult {
-        answer: SinkAnswer::Done(standing),
+        answer: answer,
         state: after,
         handed: handed,
-        mended: heard.mended,
+        mended: read.mended,
     }
 }
 
-// Hands out the client bytes where the gate of the payload type is open, and gives their number.
-fn release(settings: Settings, state: SinkState, is_open: bool, frame: &[u8], out: &mut [u8]) -> u32
+// Hands out the client bytes if the payload type lets them pass, and gives their number.
+fn release(
+    settings: Settings,
+    state: SinkState,
+    expected: Expected,
+    frame: &[u8],
+    out: &mut [u8],
+) -> u32
     requires { ⌜ Accepted settings (length (now frame)) (length (now out)) ⌝ }
-    ensures { λ r. ⌜ HandsOut (cond «is_open» (handed settings state (now (frame .entry))) []) (now (out .entry)) r (now (out .exit)) ⌝ }
+    ensures { λ r. ⌜ HandsOut (released settings state expected (now (frame .entry))) (now (out .entry)) r (now (out .exit)) ⌝ }
 {
+    let before = state.types;
+    let is_open = gmp_payload_type::gate_open(settings.type_check, before, expected);
     if is_open {
         return hand_out(settings, state, frame, out);
     }
@@ -97,4 +100,28 @@ fn hand_out(settings: Settings, state: SinkState, frame: &[u8], out: &mut [u8]) 
     };
     gmp_frame_read::take_client(frame, settings.k, n, out);
     n
+}
+
+// Reads the control word of a frame, and then judges its PSI byte.
+fn read_frame(settings: Settings, state: SinkState, expected: Expected, frame: &[u8]) -> FrameRead
+    ensures { λ r. ⌜ ReadsFrame settings state expected (now (frame .entry)) (r .answer) (r .state) (r .mended) ⌝ }
+{
+    let control = gmp_frame::control_of(frame, settings.k);
+    let heard = gmp_sink_control::read_control(settings, state, control);
+    let followed = heard.followed;
+    let standing = followed.standing;
+    let count = followed.count;
+    let word = followed.word;
+    let psi = gmp_frame::psi_of(frame, settings.k);
+    let before = state.types;
+    let types = gmp_payload_type::read_psi(settings.type_check, before, expected, psi);
+    FrameRead {
+        answer: SinkAnswer::Done(standing),
+        state: SinkState {
+            count: count,
+            word: word,
+            types: types,
+        },
+        mended: heard.mended,
+    }
 }

@@ -10,7 +10,7 @@ use gmp_sink::Heard;
 use gmp_sink::SinkState;
 use gmp_standing::Count;
 use gmp_standing::Standing;
-ghost use Rattle.gmp_sink.specs.Sink.{HearsWord, ReadsControl};
+ghost use Rattle.gmp_sink_control.specs.Control.{HearsWord, ReadsControl};
 
 // Rules 1 to 3: what the control bytes lead to, and whether a bit of them was mended.
 pub fn read_control(settings: Settings, state: SinkState, control: Control) -> Heard

@@ -1,7 +1,8 @@
 -- `gmp_sink_call::hand_out` meets its contract. Assumes nothing.
 use mathlib.Core.Path.{_∙_, sym}
 use borrow.Author.Needs.{needs}
-use Rattle.gmp_sink.proofs.Laws.{handed-none, hands-out}
+use Rattle.gmp_sink.proofs.Laws.{handed-none}
+use Rattle.gmp_sink_call.proofs.Laws.{hands-out}
 use Rattle.gmp_sink_call.proofs.hand_out.Statement.{statement}
 use Rattle.gmp_sink_call.proofs.hand_out.Tie as tie
 

@@ -5,7 +5,8 @@ use borrow.Author.Needs.{needs}
 use Rattle.refusals.specs.Table.{refused}
 use Rattle.gmp_refusal.specs.Refusal.{verdictNumber}
 use Rattle.gmp_refusal.proofs.Laws.{refused-has-number}
-use Rattle.gmp_sink.proofs.Laws.{accepted-knows, promise-accepted, answer-refused, state-refused, mended-refused, handed-refused, out-refused}
+use Rattle.gmp_sink.proofs.Laws.{accepted-knows, answer-refused, state-refused, mended-refused, handed-refused, out-refused}
+use Rattle.gmp_sink_call.proofs.Laws.{promise-accepted}
 use Rattle.gmp_sink_call.proofs.take_frame.Statement.{statement}
 use Rattle.gmp_sink_call.proofs.take_frame.Tie as tie
 

@@ -12,8 +12,9 @@ use Rattle.gmp_control.specs.Follow.{usable, found}
 use Rattle.gmp_frame.specs.declared.Control.{Control}
 use Rattle.gmp_sink.specs.declared.SinkState.{SinkState}
 use Rattle.gmp_sink.specs.declared.Heard.{Heard}
-use Rattle.gmp_sink.specs.Sink.{readingOf, standingBy, wordAfter, isMended, HearsWord, ReadsControl}
+use Rattle.gmp_sink.specs.Sink.{readingOf, standingBy, wordAfter, isMended}
 use Rattle.gmp_sink.proofs.Laws.{standing-read, word-read, mended-read, count-after}
+use Rattle.gmp_sink_control.specs.Control.{HearsWord, ReadsControl}
 use Rattle.gmp_sink_control.proofs.read_control.Statement.{statement}
 use Rattle.gmp_sink_control.proofs.read_control.Tie as tie
 
