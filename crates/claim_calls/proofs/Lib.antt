@@ -1,2 +1,3 @@
 mod Observed
+mod Lent
 mod Worked

@@ -1,23 +1,28 @@
 -- The worked calls: of each it is computed what it answers, and the rest is as the definitions say.
 -- Assumes nothing.
-use mathlib.Core.Path.{_≡_, refl}
+use mathlib.Core.Path.{_≡_, refl, ap, _∙_}
+use mathlib.Core.Bool.{Bool, true, false, cond, xor}
 use mathlib.Core.List.{List, [], _∷_}
+use Prim.Native.Nat.{ℕ}
 use lib.ListN.{length}
 use Rattle.math.specs.Bits.{bits, differing}
 use Rattle.gmp_crc8.specs.Division.{reduce, divide}
 use Rattle.gmp_crc8.specs.Check.{remainder, passes, word}
 use Rattle.gmp_crc8.specs.Reading.{readAs}
+use Rattle.refusals.specs.Table.{accepts}
 use Rattle.gmp_refusal.specs.declared.Refusal.the-variants.{Grid, Port}
 use Rattle.gmp_refusal.specs.declared.Verdict.{Verdict}
 use Rattle.gmp_refusal.specs.declared.Verdict.the-variants.{Accepted, Refused}
 use Rattle.gmp_refusal.specs.Refusal.{verdictNumber}
 use Rattle.gmp_settings.specs.Settings.{outside}
-use Rattle.gmp_standing.specs.declared.Standing.the-variants.{Paired, Waiting}
+use Rattle.gmp_standing.specs.declared.Standing.the-variants.{Tracked, Paired, Waiting}
 use Rattle.gmp_standing.specs.Known.{inWindow}
 use Rattle.gmp_control.specs.Word.{equalIndicators}
 use Rattle.gmp_control.specs.Pattern.{tableOf}
 use Rattle.gmp_control.specs.Follow.{usable, tracked, candidate, paired, reading, foundBy}
-use Rattle.gmp_frame.specs.Frame.{controlOf}
+use Rattle.gmp_places.specs.Places.{places, chosen}
+use Rattle.gmp_frame.specs.Frame.{columns, payload, clientBytes, controlOf}
+use Rattle.gmp_payload_type.specs.Types.{judged, typesAfter, gateOpen}
 use Rattle.gmp_source.specs.declared.SourceState.{SourceState}
 use Rattle.gmp_source.specs.Source.{sourceRefusal, sourceState}
 use Rattle.card_tally.specs.declared.Tallies.{Tallies}
@@ -26,11 +31,12 @@ use Rattle.card_promise.specs.Card.{talliesAfter}
 use Rattle.gmp_sink.specs.declared.SinkState.{SinkState}
 use Rattle.gmp_sink.specs.declared.SinkAnswer.{SinkAnswer}
 use Rattle.gmp_sink.specs.declared.SinkAnswer.the-variants.{Done, Refused as TurnedBack}
-use Rattle.gmp_sink.specs.Sink.{newSink, answerMeaning, sinkRefusal, sinkAnswer, standingAfter, stateAfter, sinkState}
-use Rattle.claim_recovery.specs.Runs.{SourceCall, SinkCall, SourceStep, SinkStep, refusalOf, sourceAfter, sinkAfter, frameOf, answerOf, mendedOf, handedOf, outOf}
-use Rattle.claim_worked.specs.Run.{small, wrong, room, send, source, frame1, frame2, hearOn, lost}
-use Rattle.claim_calls.specs.Observed.{SourceSeen, SinkSeen}
-use Rattle.claim_calls.specs.Worked.{WorkedSeen}
+use Rattle.gmp_sink.specs.Sink.{newSink, answerMeaning, sinkRefusal, sinkAnswer, handed, released, standingAfter, stateAfter, sinkState, sinkHanded}
+use Rattle.claim_recovery.specs.Runs.{SourceCall, SinkCall, SourceStep, SinkStep, refusalOf, sourceAfter, sinkAfter, sinkSteps, frameOf, answerOf, mendedOf, handedOf, outOf}
+use Rattle.claim_worked.specs.Run.{small, wrong, room, send, source, frame1, frame2, frame3, hearOn, lost}
+use Rattle.claim_calls.specs.Observed.{SourceSeen, SinkSeen, SinkPassed, sinkCalls, sinkTaken}
+use Rattle.claim_calls.specs.Worked.{onOne, handedNumbers, WorkedSeen}
+use Rattle.claim_calls.proofs.Observed.{as-defined}
 
 -- a call that answered so
 abbrev source-seen : (x : SourceStep) (v : Verdict) → verdictNumber v ≡ refusalOf x → SourceSeen
@@ -81,9 +87,12 @@ y3 = record { call = hearOn 1 small frame2 tt room; state = sinkAfter y2 }
 abbrev w1 : SinkStep
 w1 = record { call = hearOn 5 small frame2 tt room; state = lost }
 
-sink-answers : (answerMeaning (Done Waiting) ≡ answerOf y1) × (answerMeaning (TurnedBack Port) ≡ answerOf y2) × (answerMeaning (Done (Paired 6)) ≡ answerOf y3) × (answerMeaning (Done Waiting) ≡ answerOf w1)
+abbrev y4 : SinkStep
+y4 = record { call = hearOn 1 small frame3 tt room; state = sinkAfter y3 }
+
+sink-answers : (answerMeaning (Done Waiting) ≡ answerOf y1) × (answerMeaning (TurnedBack Port) ≡ answerOf y2) × (answerMeaning (Done (Paired 6)) ≡ answerOf y3) × (answerMeaning (Done Waiting) ≡ answerOf w1) × (answerMeaning (Done (Tracked 5)) ≡ answerOf y4)
 unfolding sinkRefusal sinkAnswer sinkState standingAfter stateAfter controlOf foundBy reading inWindow usable tracked candidate paired equalIndicators passes readAs remainder divide reduce bits outside word differing tableOf
-sink-answers = (refl, refl, refl, refl)
+sink-answers = (refl, refl, refl, refl, refl)
 
 abbrev t1 : Tallies
 t1 = talliesOf y1 newTallies
@@ -94,6 +103,34 @@ t2 = talliesOf w1 t1
 abbrev t3 : Tallies
 t3 = talliesOf y2 t2
 
+abbrev t4 : Tallies
+t4 = talliesOf y3 t3
+
+-- how many bytes steps hand out
+abbrev lengths : List SinkStep → List ℕ
+lengths [] = []
+lengths (y ∷ ys) = length (handedOf y) ∷ lengths ys
+
+lengths-cond : (b : Bool) (y : SinkStep) (ys : List SinkStep) → cond b (length (handedOf y) ∷ lengths ys) (lengths ys) ≡ lengths (cond b (y ∷ ys) ys)
+lengths-cond true y ys = refl
+lengths-cond false y ys = refl
+
+numbers-are : (seen : List SinkSeen) → handedNumbers seen ≡ lengths (sinkTaken seen)
+numbers-are [] = refl
+numbers-are (c ∷ cs) =
+    let b = accepts (answerMeaning (c .result .answer)) in
+    ap (λ (n : ℕ). cond b (n ∷ handedNumbers cs) (handedNumbers cs)) (as-defined .handed c)
+    ∙ ap (λ (l : List ℕ). cond b (length (handedOf (c .step)) ∷ l) l) (numbers-are cs)
+    ∙ lengths-cond b (c .step) (sinkTaken cs)
+
+one-lengths : lengths (sinkSteps newSink onOne) ≡ 0 ∷ 0 ∷ 6 ∷ []
+unfolding sinkSteps remainder divide reduce bits outside sinkRefusal sinkState sinkHanded released gateOpen typesAfter judged handed standingAfter stateAfter controlOf foundBy reading inWindow usable tracked candidate paired equalIndicators passes readAs clientBytes chosen payload columns places word differing xor tableOf
+one-lengths = refl
+
+one-handed : (seen : List SinkSeen) (e : SinkState) → SinkPassed newSink seen e → sinkCalls seen ≡ onOne → handedNumbers seen ≡ 0 ∷ 0 ∷ 6 ∷ []
+one-handed seen e passed calls =
+    numbers-are seen ∙ ap lengths (as-defined .sink newSink seen e passed) ∙ ap (λ (cs : List SinkCall). lengths (sinkSteps newSink cs)) calls ∙ one-lengths
+
 pub worked-seen : WorkedSeen
 worked-seen =
     record {
@@ -103,13 +140,15 @@ worked-seen =
       first = sink-seen y1 newTallies (Done Waiting) (sink-answers .0);
       refused = sink-seen y2 t2 (TurnedBack Port) (sink-answers .1);
       third = sink-seen y3 t3 (Done (Paired 6)) (sink-answers .2);
+      fourth = sink-seen y4 t4 (Done (Tracked 5)) (sink-answers .4);
       other = sink-seen w1 t1 (Done Waiting) (sink-answers .3);
-      one-end = sinkAfter y3;
-      one-passed = (refl, (refl, (refl, refl)));
+      one-end = sinkAfter y4;
+      one-passed = (refl, (refl, (refl, (refl, refl))));
       one-calls = refl;
       five-end = sinkAfter w1;
       five-passed = (refl, refl);
       five-calls = refl;
-      tallies = talliesOf y3 t3;
-      card-passed = (refl, (refl, (refl, (refl, refl))));
+      tallies = talliesOf y4 t4;
+      card-passed = (refl, (refl, (refl, (refl, (refl, refl)))));
+      one-handed = one-handed;
     }

@@ -8,7 +8,8 @@ pub fn runs_as_defined()
     ensures { λ _. ⌜ AsDefined ⌝ }
 {}
 
-// Worked calls of a source and of two sinks of a card, refused ones among them.
+// Worked calls of a source and of two sinks of a card, refused ones among them; and how many bytes
+// such calls say to hand out, whichever they are.
 pub fn worked_calls()
     ensures { λ _. ⌜ WorkedSeen ⌝ }
 {}

@@ -137,7 +137,7 @@ recovers-both s source calls run m n far fromFirst reads z fromAny reads₂ =
           );
     }
 
-recovers-alone : RecoveryAlone
+pub recovers-alone : RecoveryAlone
 recovers-alone s source calls run m n z reader far reads =
     record {
       hold = holds s source calls run Unharmed m n z reader reads (unharmed s) far;
@@ -207,7 +207,7 @@ typed-recovers s on source calls run expected m n z reader reads =
         (drop (m - 1) (sourceSteps source calls)) (sinkSteps z reader) r r
 
 -- 768 frames are three rounds of the multiframe number.
-three-come : ThreeCome
+pub three-come : ThreeCome
 three-come s source calls run m i one low high =
     let all = sourceSteps source calls in
     let rest : length (drop (m - 1) all) ≡ length all - (m - 1) = rw length-drop in
@@ -248,7 +248,7 @@ few-wrong-bits mending s same source calls run m n reader reads = record { count
         ⊎-map (λ c. c) (λ c. (last .0, last .1, c ∙ ap Known (last .2))) (none-or (end .count) _ safe)
 
 pub demand : Demand3
-demand = record { recovery = recovers-both; alone = recovers-alone; typed-recovery = typed-recovers; three-come = three-come; no-false-count = few-wrong-bits }
+demand = record { recovery = recovers-both; typed-recovery = typed-recovers; no-false-count = few-wrong-bits }
 
 -- The third claim: with mending on, frames with at most one wrong control bit go for those that
 -- were written.

@@ -1,4 +1,5 @@
 pub mod Lists
+pub mod Bytes
 pub mod Threads
 pub mod Along
 pub mod Types

@@ -97,7 +97,8 @@ Recovery =
 abbrev pub HoldsCount : List SourceStep → (n : ℕ) → SinkState → List SinkCall → Type 0
 HoldsCount sent n z reader = (x : SourceStep) × Nth sent n x × (sinkEnd z reader .count ≡ Known (countOf x))
 
--- The same of one sink alone, in the state z from frame m, with no second sink beside it.
+-- The same of one sink alone, in the state z from frame m, with no second sink beside it. 01 does
+-- not ask for it; README, SUPPORT and odu0.h promise it.
 pub record RecoveredAlone (s : Settings) (sent : List SourceStep) (m n : ℕ) (z : SinkState) (reader : List SinkCall) : Type 0 where
   pub hold : HoldsCount sent n z reader
   pub deliver : (i : ℕ) → m + 2 ≤ i → i ≤ n → (x : SourceStep) × (y : SinkStep) × Nth sent i x × Nth (sinkSteps z reader) (i + 1 - m) y × Delivers s x y
@@ -163,7 +164,8 @@ TypedRecovery =
     → (expected m n : ℕ) (z : SinkState) (reader : List SinkCall) → Reads s (sourceSteps source calls) (PassedOn Unharmed expected) m n z reader
     → TypedRecovered source (sourceSteps source calls) expected m n z reader
 
--- Any 768 frames in succession hold three numbered 0: the frames m to i - 1, which were sent.
+-- Any 768 frames in succession hold three numbered 0: the frames m to i - 1, which were sent. It is
+-- no part of demand 3: the desk is told the figure.
 abbrev pub ThreeCome : Type 0
 ThreeCome =
     (s : Settings) (source : SourceState) (calls : List SourceCall) → SourceRun s source calls
@@ -184,12 +186,11 @@ NoFalseCount mending most =
     → (m n : ℕ) (reader : List SinkCall) → Reads s (sourceSteps source calls) (AtMostWrong most s) m n newSink reader
     → NotFalse (sourceSteps source calls) n reader
 
--- The budget of the check: three wrong bits, as in 01; and with mending on 02, P1: "the guarantee
--- against false counts covers two wrong bits a frame, no longer three; recovery after two unharmed
--- frames is as before".
+-- Demand 3: 01's two claims as 02 has them. Of the first P4 says when the bytes come with the type
+-- check on. The second goes by the budget of the check: three wrong bits, as in 01; and with mending
+-- on P1: "the guarantee against false counts covers two wrong bits a frame, no longer three;
+-- recovery after two unharmed frames is as before".
 pub record Demand3 : Type 0 where
   pub recovery : Recovery
-  pub alone : RecoveryAlone
   pub typed-recovery : TypedRecovery
-  pub three-come : ThreeCome
   pub no-false-count : (mending : Bool) → NoFalseCount mending (budget mending)

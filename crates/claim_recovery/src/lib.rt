@@ -1,6 +1,6 @@
 // Demand 3 and the other claims over whole runs, each as the contract of a function with an empty
 // body.
-ghost use Rattle.claim_recovery.specs.Demand.{Demand3};
+ghost use Rattle.claim_recovery.specs.Demand.{Demand3, RecoveryAlone, ThreeCome};
 ghost use Rattle.claim_recovery.specs.Mended.{CostsNothing, SinksOwn};
 ghost use Rattle.claim_recovery.specs.Swapped.{OnlyExpectedType};
 ghost use Rattle.claim_recovery.specs.Tallied.{TallySums};
@@ -11,6 +11,16 @@ ghost use Rattle.claim_recovery.specs.Tallied.{TallySums};
 // bits a frame, or two where mending is on, give no false count.
 pub fn demand_3()
     ensures { λ _. ⌜ Demand3 ⌝ }
+{}
+
+// Two unharmed frames bring one sink back from any state, with no second sink beside it.
+pub fn recovers_alone()
+    ensures { λ _. ⌜ RecoveryAlone ⌝ }
+{}
+
+// Any 768 frames in succession hold three numbered 0.
+pub fn three_come()
+    ensures { λ _. ⌜ ThreeCome ⌝ }
 {}
 
 // With mending on, a sink that holds the source's count keeps it and delivers each frame with at

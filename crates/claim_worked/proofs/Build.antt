@@ -7,7 +7,7 @@ use native.Mathlib.Omega.{arith}
 use lib.Dec.{T, eqb, eqb→eq}
 use lib.ListN.{length, getD, drop}
 use borrow.Author.Tests.{ne-eqb}
-use Rattle.math.specs.Finite.{both-left, both-right}
+use Rattle.math.proofs.Finite.{both-left, both-right}
 use Rattle.gmp_settings.specs.declared.Settings.{Settings}
 use Rattle.gmp_frame.specs.Frame.{OthersSame}
 use Rattle.gmp_sink.specs.declared.SinkState.{SinkState}

@@ -25,12 +25,13 @@ use Rattle.gmp_source.specs.Source.{startRefusal, newSource, sourceRefusal, con
 use Rattle.gmp_sink.specs.Sink.{newSink, sinkRefusal, released, sinkHanded}
 use Rattle.claim_recovery.specs.Runs.{Bytes, SourceCall, SourceStep, SinkStep, sourceSteps, sinkSteps, sinkEnd, frameOf, loadOf, handedOf}
 use Rattle.claim_recovery.specs.Demand.{SourceRun, Unharmed, PassedOn, zerosBefore}
+use Rattle.claim_recovery.proofs.Bytes.{bytes}
 use Rattle.claim_recovery.proofs.Lists.{nth-at, each-both}
 use Rattle.claim_recovery.proofs.Threads.{chain, thread}
 use Rattle.claim_recovery.proofs.Along.{AsWritten, unharmed}
 use Rattle.claim_recovery.proofs.Types.{types-at, one-type, numbered, zeros-of}
 use Rattle.claim_worked.specs.Less.{TypedAfter}
-use Rattle.claim_worked.specs.Run.{bytes, send}
+use Rattle.claim_worked.specs.Run.{send}
 use Rattle.claim_worked.specs.Typed.{checks}
 use Rattle.claim_worked.proofs.Build.{All, all-nth, reads-by}
 use Rattle.claim_worked.proofs.Reading.{FramesBytes, reader, all-taken}

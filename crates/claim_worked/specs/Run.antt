@@ -2,11 +2,11 @@
 -- sink, by a sink that knows a false count and a false word, and by a new sink over a hit; refused
 -- calls stand in all. The three share a card, call in turn, and each has a port of its own; the
 -- last one moves to another. Assumes nothing.
-use mathlib.Core.Path.{_≡_, refl, sym, subst}
-use mathlib.Core.Bool.{Bool, true, false, cond}
+use mathlib.Core.Path.{_≡_}
+use mathlib.Core.Bool.{false}
 use mathlib.Core.List.{List, [], _∷_}
-use Prim.Native.Nat.{ℕ, _<_}
-use lib.Dec.{T, ltb, ltb→lt}
+use Prim.Native.Nat.{ℕ}
+use lib.Dec.{T}
 use lib.ListN.{replicate}
 use Rattle.gmp_crc8.specs.Claims.{budget}
 use Rattle.gmp_settings.specs.declared.Settings.{Settings}
@@ -25,22 +25,10 @@ use Rattle.card_tally.specs.Tally.{largest}
 use Rattle.card_tally.specs.Ports.{noTally, newTallies, totalOf}
 use Rattle.gmp_sink.specs.declared.SinkState.{SinkState}
 use Rattle.gmp_sink.specs.Sink.{newSink}
-use Rattle.claim_recovery.specs.Runs.{Bytes, SourceCall, SinkCall, SourceStep, SinkStep, sinkAfter, sourceSteps, sinkSteps, sinkEnd, frameOf, answerOf}
+use Rattle.claim_recovery.specs.Runs.{SourceCall, SinkCall, SourceStep, SinkStep, sinkAfter, sourceSteps, sinkSteps, sinkEnd, frameOf, answerOf}
 use Rattle.claim_recovery.specs.Demand.{SourceRun, Reads, Unharmed, AtMostWrong}
 use Rattle.claim_recovery.specs.Tallied.{talliesEnd}
-
--- a list of bytes, by a test
-abbrev pub areBytes : List ℕ → Bool
-areBytes [] = true
-areBytes (b ∷ l) = cond (ltb b 256) (areBytes l) false
-
-bytes-by : (b : ℕ) (l : List ℕ) (c : Bool) → ltb b 256 ≡ c → T (cond c (areBytes l) false) → (T (areBytes l) → Bytes l) → (b < 256) × Bytes l
-bytes-by b l true e h f = (ltb→lt b 256 (subst T (sym e) tt), f h)
-bytes-by b l false e h f = absurd h
-
-pub bytes : (l : List ℕ) → T (areBytes l) → Bytes l
-bytes [] h = tt
-bytes (b ∷ l) h = bytes-by b l (ltb b 256) refl h (bytes l)
+use Rattle.claim_recovery.proofs.Bytes.{areBytes, bytes}
 
 -- the settings of all, and others that number 1 turns back
 abbrev pub small : Settings

@@ -5,11 +5,11 @@ use mathlib.Core.Bool.{Bool, cond}
 use mathlib.Core.List.{List, [], _∷_, _++_}
 use Prim.Native.Nat.{ℕ, zero, suc}
 use Rattle.gmp_settings.specs.declared.Settings.{Settings}
-use Rattle.gmp_settings.specs.Settings.{opu0}
+use Rattle.gmp_settings.specs.Settings.{newSettings, opu0}
 use Rattle.gmp_standing.specs.declared.Count.the-variants.{Known, Unknown}
 use Rattle.gmp_standing.specs.Standing.{Finding, finding, READ, TRACKED, PAIRED, BADCHECK, WAITING, OUTSIDE}
 use Rattle.gmp_control.specs.declared.Remembered.the-variants.{Nothing}
-use Rattle.gmp_control.specs.Worked.{wide, narrow}
+use Rattle.gmp_control.specs.Worked.{wide}
 use Rattle.gmp_places.specs.Places.{carries}
 use Rattle.gmp_frame.specs.declared.Control.{Control}
 use Rattle.gmp_payload_type.specs.Types.{newTypes}
@@ -49,6 +49,10 @@ reads s z (c ∷ cs) = standingAfter s z c ∷ reads s (stateAfter s z c) cs
 unfoldable pub carrying : ℕ → ℕ → ℕ → List ℕ
 carrying C S zero = []
 carrying C S (suc n) = carrying C S n ++ cond (carries C S (suc n)) (suc n ∷ []) []
+
+-- the window 0 to 8 on OPU0's grid
+abbrev pub narrow : Settings
+narrow = newSettings 3808 0 8
 
 -- a sink that knows a false count
 abbrev pub misled : SinkState

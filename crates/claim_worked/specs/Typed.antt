@@ -18,7 +18,8 @@ use Rattle.gmp_sink.specs.declared.SinkState.{SinkState}
 use Rattle.gmp_sink.specs.Sink.{newSink}
 use Rattle.claim_recovery.specs.Runs.{SinkCall, SinkStep, sinkSteps, sinkEnd, handedOf, outOf}
 use Rattle.claim_recovery.specs.Tallied.{bytesOf}
-use Rattle.claim_worked.specs.Run.{small, wrong, room, areBytes, bytes, answers, says, silent}
+use Rattle.claim_recovery.proofs.Bytes.{areBytes, bytes}
+use Rattle.claim_worked.specs.Run.{small, wrong, room, answers, says, silent}
 
 -- the worked settings with the type check on
 abbrev pub checks : Settings

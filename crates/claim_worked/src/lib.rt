@@ -1,4 +1,5 @@
-// Worked frames, and what shows that demand 3 is neither empty nor more than it need be.
+// Worked frames, and what shows that the claims are neither empty nor more than they need be, nor
+// weaker than what they are used for.
 ghost use Rattle.claim_worked.specs.Starred.{AllHold, starred};
 ghost use Rattle.claim_worked.specs.Run.{WorkedRun};
 ghost use Rattle.claim_worked.specs.Customer.{CustomerRun};
@@ -47,8 +48,9 @@ pub fn no_less()
     ensures { λ _. ⌜ NoLess ⌝ }
 {}
 
-// Two unharmed frames bring one sink back from any state. With the type check on the bytes come
-// behind the third frame numbered 0, those that came before counted.
+// The claims with their numbers written out. Two unharmed frames bring one sink back from any state.
+// With the type check on the bytes come behind the third frame numbered 0, those that came before
+// counted. A mended frame is told as mended, and runs of an OPU0 frame carry so many client bytes.
 pub fn is_enough()
     ensures { λ _. ⌜ Enough ⌝ }
 {}

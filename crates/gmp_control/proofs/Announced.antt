@@ -7,7 +7,7 @@ use native.Mathlib.Omega.{arith}
 use lib.Dec.{eqb, lit<}
 use lib.Bits.{xor-lt}
 use borrow.Author.Tests.{eqb-true, eq-eqb}
-use Rattle.math.specs.Choice.{cond-elim}
+use Rattle.math.proofs.Choice.{cond-elim}
 use Rattle.gmp_control.specs.Word.{modulus, wordOf, countBits, equalIndicators, sign}
 use Rattle.gmp_control.specs.Pattern.{Table, Rule, patternAt, changeAt}
 use Rattle.gmp_control.specs.Announce.{changesBy, announced}

@@ -9,7 +9,7 @@ use native.Mathlib.Omega.{arith}
 use lib.Dec.{eqb}
 use lib.Bits.{bitXor, xor-comm, xor-self}
 use borrow.Author.Tests.{eqb-true, eq-eqb, ne-eqb}
-use Rattle.math.specs.Xor.{xor-undo, xor-undo-l, xor-assoc}
+use Rattle.math.proofs.Xor.{xor-undo, xor-undo-l, xor-assoc}
 use Rattle.gmp_standing.specs.declared.Count.{Count}
 use Rattle.gmp_standing.specs.declared.Count.the-variants.{Known, Unknown}
 use Rattle.gmp_control.specs.Word.{moved}

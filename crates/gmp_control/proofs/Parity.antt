@@ -6,7 +6,7 @@ use mathlib.Core.Logic.{_⊎_, inl, inr, ⊎-elim, ⊎-map}
 use Prim.Native.Nat.{ℕ, _+_, _%_}
 use native.Mathlib.Omega.{arith}
 use lib.Bits.{bitXor, xor-add-and, xor-self, xor-comm, xor-zero-r}
-use Rattle.math.specs.Xor.{xor-assoc, xor-undo-l}
+use Rattle.math.proofs.Xor.{xor-assoc, xor-undo-l}
 use Rattle.gmp_control.specs.Word.{moved}
 
 -- the lowest bit of their exclusive-or is that of D turned over

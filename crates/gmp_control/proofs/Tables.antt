@@ -8,7 +8,7 @@ use lib.Dec.{lit<, eqb, ltb}
 use lib.Bits.{bitXor}
 use lib.ListN.{getD}
 use borrow.Author.Tests.{eqb-true, eqb-false, ltb-false, not-false, eq-eqb, ne-eqb, le-ltb}
-use Rattle.math.specs.Choice.{neither}
+use Rattle.math.proofs.Choice.{neither}
 use Rattle.gmp_settings.specs.declared.Settings.{Settings}
 use Rattle.gmp_settings.specs.declared.Patterns.{Patterns}
 use Rattle.gmp_settings.specs.declared.Patterns.the-variants.{Standard, Given}

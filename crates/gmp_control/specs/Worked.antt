@@ -1,4 +1,5 @@
--- Worked words of 01, and of tables that settings may carry (02, P11). Assumes nothing.
+-- Worked words of tables that settings may carry (02, P11). Those of 01 are starred, and stand in
+-- the crate claim_worked. Assumes nothing.
 use mathlib.Core.Path.{_≡_, refl}
 use mathlib.Core.Bool.{false}
 use Prim.Native.Nat.{ℕ}
@@ -8,7 +9,7 @@ use Rattle.gmp_settings.specs.Settings.{newSettings, withPatterns, opu0, outsid
 use Rattle.gmp_settings.specs.Patterns.{badFour}
 use Rattle.gmp_settings.specs.Worked.{four, oneBitWrong}
 use Rattle.gmp_standing.specs.declared.Count.the-variants.{Known, Unknown}
-use Rattle.gmp_standing.specs.Standing.{finding, READ, TRACKED, PAIRED, WAITING, OUTSIDE}
+use Rattle.gmp_standing.specs.Standing.{finding, PAIRED, WAITING, OUTSIDE}
 use Rattle.gmp_standing.specs.Known.{inWindow}
 use Rattle.gmp_control.specs.declared.WordBytes.{WordBytes}
 use Rattle.gmp_control.specs.declared.Remembered.the-variants.{Word, Nothing}
@@ -20,49 +21,9 @@ use Rattle.gmp_control.specs.Follow.{usable, tracked, candidate, paired,
 abbrev bytes : ℕ → ℕ → WordBytes
 bytes a b = record { jc1 = a; jc2 = b }
 
-abbrev announces : ℕ → ℕ → WordBytes
-announces old next = wordBytes (announced standard old next)
-
--- "Old 14407: next 14407 E1 1C 6E; 14408 4B B6 38; 14409 87 7A A7; 14406 B4 49 45; 14405 78 85 DA.
--- Old 14405, next 14409: E1 27 6C." The third bytes are worked in the crate gmp_crc8.
-pub words :
-    (announces 14407 14407 ≡ bytes 0xE1 0x1C)
-    × (announces 14407 14408 ≡ bytes 0x4B 0xB6)
-    × (announces 14407 14409 ≡ bytes 0x87 0x7A)
-    × (announces 14407 14406 ≡ bytes 0xB4 0x49)
-    × (announces 14407 14405 ≡ bytes 0x78 0x85)
-    × (announces 14405 14409 ≡ bytes 0xE1 0x27)
-unfolding announced
-words = (refl, refl, refl, refl, refl, refl)
-
--- the window 0 to 15232 on OPU0's grid, and the window 0 to 8
+-- the window 0 to 15232 on OPU0's grid
 abbrev pub wide : Settings
 wide = newSettings 3808 0 15232
-
-abbrev pub narrow : Settings
-narrow = newSettings 3808 0 8
-
--- "A new OPU0 sink reads 4B B6 38 (WAITING), then 4B 8A 19: PAIRED, 14409."
-pub hunting :
-    (found opu0 Unknown Nothing (wordBy 0x4B 0xB6) ≡ finding WAITING Unknown)
-    × (found opu0 Unknown (Word (wordBy 0x4B 0xB6)) (wordBy 0x4B 0x8A) ≡ finding PAIRED (Known 14409))
-unfolding foundBy inWindow usable tracked candidate paired reading equalIndicators tableOf outside
-hunting = (refl, refl)
-
--- "Window 0 to 15232, known count 2932 (false), no word: 4B B6 38 is TRACKED to 2934; then 4B 8A 19
--- is PAIRED, 14409."
-pub false-count :
-    (found wide (Known 2932) Nothing (wordBy 0x4B 0xB6) ≡ finding TRACKED (Known 2934))
-    × (found wide (Known 2934) (Word (wordBy 0x4B 0xB6)) (wordBy 0x4B 0x8A) ≡ finding PAIRED (Known 14409))
-unfolding foundBy inWindow usable tracked candidate paired reading equalIndicators tableOf outside
-false-count = (refl, refl)
-
--- "00 00 00 passes the check: OPU0 says OUTSIDE; window 0 to 8 says READ, 0."
-pub zeros :
-    (found opu0 Unknown Nothing (wordBy 0x00 0x00) ≡ finding OUTSIDE Unknown)
-    × (found narrow Unknown Nothing (wordBy 0x00 0x00) ≡ finding READ (Known 0))
-unfolding foundBy inWindow usable tracked candidate paired reading equalIndicators tableOf outside
-zeros = (refl, refl)
 
 -- Zero patterns, and a plus pattern that is a minus pattern: the table 0, 0, 1, 1 keeps the rule,
 -- since its exclusive-ors are 1 and 1. The two possible counts of E1 1E 74, which a source writes

@@ -9,7 +9,7 @@ use native.Mathlib.Omega.{arith}
 use lib.Bits.{bitXor, xor-self, xor-comm}
 use lib.Dec.{T, eqb, eqb→eq, T-not, lit<}
 use lib.ListN.{length, take, drop}
-use Rattle.math.specs.Finite.{both-left, both-right}
+use Rattle.math.proofs.Finite.{both-left, both-right}
 use Rattle.math.specs.Bits.{digit, bits, differing}
 use Rattle.gmp_crc8.specs.Division.{reduce, divide}
 use Rattle.gmp_crc8.specs.Check.{remainder, passes, syndrome, word, wrongBits}

@@ -6,10 +6,12 @@ use Prim.Native.Nat.{ℕ, _+_, _*_, _/_, _<_}
 use native.Mathlib.Omega.{arith}
 use lib.Bits.{bitXor, xor-shr, xor-lt, xor-block, xor-zero-r}
 use lib.Dec.{T, ltb, eqb, eqb→eq, ltb→lt, lit<}
-use Rattle.math.specs.Xor.{xor-medial}
+use Rattle.math.proofs.Xor.{xor-medial}
 use Rattle.math.specs.Linear.{Linear}
-use Rattle.math.specs.Finite.{both-left, both-right, below, at-below, agree-below}
-use Rattle.math.specs.Bits.{digit, bits, digit-lt, digit-xor}
+use Rattle.math.specs.Finite.{below}
+use Rattle.math.proofs.Finite.{both-left, both-right, at-below, agree-below}
+use Rattle.math.specs.Bits.{digit, bits}
+use Rattle.math.proofs.Bits.{digit-lt, digit-xor}
 use Rattle.gmp_crc8.specs.Division.{generator, reduce, divide}
 use Rattle.gmp_crc8.specs.Check.{remainder}
 

@@ -9,8 +9,9 @@ use lib.Bits.{bitXor, xor-self, xor-lt}
 use lib.Dec.{T, eqb, ltb, eqb→eq, ltb→lt, lit<, lit≤}
 use lib.ListN.{length}
 use borrow.Author.Tests.{eq-eqb, eqb-true, eqb-false, lt-ltb, ltb-true}
-use Rattle.math.specs.Xor.{xor-medial, xor-zero-eq}
-use Rattle.math.specs.Finite.{below, at-below, agree-below}
+use Rattle.math.proofs.Xor.{xor-medial, xor-zero-eq}
+use Rattle.math.specs.Finite.{below}
+use Rattle.math.proofs.Finite.{at-below, agree-below}
 use Rattle.math.specs.Bits.{digit, bits, differing}
 use Rattle.gmp_crc8.specs.declared.ReadWord.{ReadWord}
 use Rattle.gmp_crc8.specs.declared.Reading.the-variants.{Whole, Mended, Bad}

@@ -1,5 +1,5 @@
--- Worked words of 01, words with wrong bits (02, P1), and those that show that the budget is as
--- large as it can be. Assumes nothing.
+-- Worked words with wrong bits (02, P1), and those that show that the budget is as large as it can
+-- be. The starred words of 01 stand in the crate claim_worked. Assumes nothing.
 use mathlib.Core.Path.{_≡_, refl}
 use mathlib.Core.Bool.{true, false, xor}
 use Rattle.math.specs.Bits.{bits, differing}
@@ -7,23 +7,6 @@ use Rattle.gmp_crc8.specs.Division.{reduce, divide}
 use Rattle.gmp_crc8.specs.declared.Reading.the-variants.{Whole, Mended, Bad}
 use Rattle.gmp_crc8.specs.Check.{remainder, passes, syndrome, word, wrongBits}
 use Rattle.gmp_crc8.specs.Reading.{readWord, oneBit, firstWith, wrongBit, mended, readAs, bitIn, flipped}
-
--- the third bytes of the worked control words
-pub remainders :
-    (remainder 0xE1 0x1C ≡ 0x6E)
-    × (remainder 0x4B 0xB6 ≡ 0x38)
-    × (remainder 0x87 0x7A ≡ 0xA7)
-    × (remainder 0xB4 0x49 ≡ 0x45)
-    × (remainder 0x78 0x85 ≡ 0xDA)
-    × (remainder 0xE1 0x27 ≡ 0x6C)
-    × (remainder 0x4B 0x8A ≡ 0x19)
-unfolding remainder divide reduce bits
-remainders = (refl, refl, refl, refl, refl, refl, refl)
-
--- "00 00 00 passes the check", FF FF FF does not
-pub ends : (passes 0x00 0x00 0x00 ≡ true) × (passes 0xFF 0xFF 0xFF ≡ false)
-unfolding passes remainder divide reduce bits
-ends = (refl, refl)
 
 -- four wrong bits can pass: two words that both pass differ in four places
 pub four-wrong : (passes 0x00 0x00 0x00 ≡ true) × (passes 0x00 0xA0 0x03 ≡ true) × (wrongBits 0x00 0x00 0x00 0x00 0xA0 0x03 ≡ 4)

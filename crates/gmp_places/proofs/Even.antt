@@ -1,11 +1,12 @@
 -- Why the client bytes lie evenly: before a run and after it, less than S is left over where n × C
 -- is divided by S. Assumes nothing.
-use mathlib.Core.Path.{_≡_}
+use mathlib.Core.Path.{_≡_, refl}
 use Prim.Native.Nat.{ℕ, zero, suc, _+_, _*_, _/_, _%_, _≤_, _<_}
 use native.Mathlib.Nat.{add-mul, add-suc, add-zero, div-add-mod, div-lt-iff-lt-mul, lt-of-mul-lt-mul-left, mod-eq-of-lt, mod-lt, mod-self, mul-add, mul-comm, mul-one, one-mul, zero-mod, zero-mul}
 use native.Mathlib.Omega.{arith}
+use Rattle.gmp_settings.specs.Grid.{payloadBytes}
 use Rattle.gmp_places.specs.Places.{places}
-use Rattle.gmp_places.specs.Even.{placesIn, Even}
+use Rattle.gmp_places.specs.Even.{placesIn, Even, BytesLieEvenly}
 use Rattle.gmp_places.proofs.Steps.{places-whole}
 
 -- the places of a run are the difference of two numbers of first places
@@ -37,15 +38,26 @@ module _ (C S : ℕ) (le : C ≤ S) (a L : ℕ) where
       }
 
 -- with one stuffing byte, payload byte 1 is it: nothing is left over before the run, C after it
-pub sharp-below : (C S : ℕ) → C + 1 ≡ S → S * placesIn C S 0 1 + C ≡ 1 * C
+sharp-below : (C S : ℕ) → C + 1 ≡ S → S * placesIn C S 0 1 + C ≡ 1 * C
 sharp-below C S e =
     let before : 0 * C % S ≡ 0 = rw (zero-mul C) (zero-mod S) in
     let after : (0 + 1) * C % S ≡ C = rw (one-mul C) (mod-eq-of-lt (omega (arith, e))) in
     omega (arith, balance C S (omega (arith, e)) 0 1, before, after)
 
 -- with one client byte, payload byte S carries it: a is left over before the run, nothing after it
-pub sharp-above : (a S : ℕ) → a + 1 ≡ S → S * placesIn 1 S a 1 ≡ 1 * 1 + a
+sharp-above : (a S : ℕ) → a + 1 ≡ S → S * placesIn 1 S a 1 ≡ 1 * 1 + a
 sharp-above a S e =
     let before : a * 1 % S ≡ a = rw (mul-one a) (mod-eq-of-lt (omega (arith, e))) in
     let after : (a + 1) * 1 % S ≡ 0 = rw (e, mul-one S) (mod-self S) in
     omega (arith, balance 1 S (omega (arith, e)) a 1, before, after)
+
+pub lie-evenly : BytesLieEvenly
+unfolding placesIn
+lie-evenly =
+    record {
+      every-run = λ K C a L pos le run. even C (payloadBytes K) le a L (omega (arith, pos));
+      sharp-below = λ K C e. sharp-below C (payloadBytes K) e;
+      sharp-above = λ K a e. sharp-above a (payloadBytes K) e;
+      eight-below = refl;
+      eight-above = refl;
+    }

@@ -1,4 +1,4 @@
 -- The arguments behind the places' laws, and in Laws what other crates cite. Assumes nothing.
 pub mod Steps
-mod Even
+pub mod Even
 pub mod Laws

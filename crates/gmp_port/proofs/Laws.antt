@@ -5,7 +5,7 @@ use Prim.Native.Nat.{ℕ, _≤_}
 use native.Mathlib.Omega.{arith}
 use lib.Dec.{eqb, ltb}
 use borrow.Author.Tests.{eqb-false, ltb-false, ne-eqb, le-ltb}
-use Rattle.math.specs.Choice.{neither}
+use Rattle.math.proofs.Choice.{neither}
 use Rattle.gmp_port.specs.Port.{ports, badPort}
 
 -- a port of the card is 1 to 8, and these are ports of the card

@@ -7,7 +7,7 @@ use native.Mathlib.Nat.{add-mul, mul-le-mul, le-div-iff-mul-le, div-lt-iff-lt-mu
 use native.Mathlib.Omega.{arith}
 use lib.Dec.{eqb, ltb, leb, lit<}
 use borrow.Author.Tests.{eqb-false, ltb-false, leb-false, le-ltb, eq-eqb, ne-eqb}
-use Rattle.math.specs.Choice.{neither}
+use Rattle.math.proofs.Choice.{neither}
 use Rattle.gmp_settings.specs.declared.Settings.{Settings}
 use Rattle.refusals.specs.Table.{accepted, refused}
 use Rattle.gmp_settings.specs.Settings.{settingsReasons, Fit, outside}

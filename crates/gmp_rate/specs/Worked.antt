@@ -1,4 +1,5 @@
--- Worked counts of new keepers (02, P7). Assumes nothing.
+-- Worked counts of new keepers (02, P7). Those of the gigabit client one by one are starred, and
+-- stand in the crate claim_worked. Assumes nothing.
 use mathlib.Core.Path.{_≡_, refl}
 use mathlib.Core.List.{[], _∷_}
 use Prim.Native.Nat.{ℕ}
@@ -10,14 +11,7 @@ use Rattle.gmp_rate.specs.Sum.{KeeperCall, countsFrom, sum, roundedTotal
 abbrev pub gigabit : KeeperCall
 gigabit = record { settings = opu0; p = 18671875; q = 1296 }
 
--- "For 18671875 over 1296 the first counts become 14407, 14408, 14407, 14407, 14408." (01's were
--- 14407, 14407, 14407, 14408.)
-pub counts : countsFrom (firstRemainder 1296) (gigabit ∷ gigabit ∷ gigabit ∷ gigabit ∷ gigabit ∷ [])
-    ≡ 14407 ∷ 14408 ∷ 14407 ∷ 14407 ∷ 14408 ∷ []
-unfolding countsFrom keeperCall keeperRefusal
-counts = refl
-
--- they add up to 72037, where 5 × 18671875 / 1296 is 72036.56
+-- its first five counts add up to 72037, where 5 × 18671875 / 1296 is 72036.56
 pub five : roundedTotal 5 18671875 1296 ≡ 72037
 five = refl
 

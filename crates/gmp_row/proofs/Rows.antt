@@ -6,7 +6,7 @@ use native.Mathlib.Nat.{mul-le-mul-right}
 use native.Mathlib.Omega.{arith}
 use lib.Dec.{ltb}
 use borrow.Author.Tests.{ltb-true, lt-ltb}
-use Rattle.math.specs.Choice.{both-true}
+use Rattle.math.proofs.Choice.{both-true}
 
 -- as many parts has a byte
 abbrev pub U : ℕ

@@ -6,7 +6,7 @@ use Prim.Native.Nat.{ℕ, _≤_}
 use native.Mathlib.Omega.{arith}
 use lib.Dec.{ltb, eqb, lit<}
 use borrow.Author.Tests.{ltb-false, eqb-false}
-use Rattle.math.specs.Choice.{neither}
+use Rattle.math.proofs.Choice.{neither}
 use Rattle.refusals.specs.Table.{Reason, lowest}
 use Rattle.refusals.proofs.Laws.{none-applies, Judged}
 use Rattle.gmp_settings.specs.declared.Settings.{Settings}

@@ -6,7 +6,7 @@ use Prim.Native.Nat.{ℕ, _*_, _≤_, _<_}
 use lib.ListN.{length}
 use lib.Dec.{ltb, leb}
 use borrow.Author.Tests.{ltb-true, leb-true, lt-ltb, le-leb}
-use Rattle.math.specs.Choice.{both-true}
+use Rattle.math.proofs.Choice.{both-true}
 use Rattle.gmp_settings.specs.Grid.{payloadBytes}
 use Rattle.gmp_stuffing.specs.Row.{rowFits, rowBytes, rowClient, rowPlaced, rowTaken}
 

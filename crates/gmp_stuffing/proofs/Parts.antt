@@ -7,7 +7,7 @@ use native.Mathlib.Nat.{add-mul, div-mul-le-self, lt-div-mul-add, lt-of-mul-lt-m
 use native.Mathlib.Omega.{arith}
 use lib.Dec.{ltb, leb}
 use borrow.Author.Tests.{ltb-true, leb-true}
-use Rattle.math.specs.Choice.{both-true}
+use Rattle.math.proofs.Choice.{both-true}
 use Rattle.gmp_row.proofs.Rows.{U}
 
 -- the rows whose places are told so

@@ -1,11 +1,9 @@
 -- The bits of a byte, most significant first, and the number of places at which two lists of bits
 -- differ. Assumes nothing.
-use mathlib.Core.Path.{_≡_, refl}
-use mathlib.Core.Bool.{Bool, true, false, cond, xor}
+use mathlib.Core.Bool.{Bool, cond, xor}
 use mathlib.Core.List.{List, [], _∷_}
-use Prim.Native.Nat.{ℕ, _+_, _/_, _%_, _<_}
-use lib.Bits.{bitXor}
-use lib.Dec.{eqb, lit<}
+use Prim.Native.Nat.{ℕ, _+_, _/_, _%_}
+use lib.Dec.{eqb}
 
 -- a bit as a number
 abbrev pub digit : Bool → ℕ
@@ -23,15 +21,3 @@ unfoldable pub differing : List Bool → List Bool → ℕ
 differing [] ys = 0
 differing (x ∷ xs) [] = 0
 differing (x ∷ xs) (y ∷ ys) = digit (xor x y) + differing xs ys
-
-pub digit-lt : (b : Bool) → digit b < 2
-digit-lt true = lit< tt
-digit-lt false = lit< tt
-
--- bits that differ are those whose exclusive-or is 1
-pub digit-xor : (b c : Bool) → digit (xor b c) ≡ bitXor (digit b) (digit c)
-unfolding xor
-digit-xor true true = refl
-digit-xor true false = refl
-digit-xor false true = refl
-digit-xor false false = refl

@@ -10,7 +10,7 @@ use lib.ListN.{length, take, drop}
 use lib.Seq.{length-take-le}
 use borrow.Rule.Slice.PartMut.{putMid, mid-len, same-len-mid}
 use Rattle.io.specs.Counts.{Counts}
-use Rattle.math.specs.Choice.{both-true}
+use Rattle.math.proofs.Choice.{both-true}
 use Rattle.gmp_standing.specs.Standing.{Finding, standingMeaning}
 use Rattle.gmp_sink.specs.Sink.{mendedIn}
 use Rattle.program_stream.specs.declared.Held.{Held}

@@ -7,7 +7,7 @@ use Prim.Native.Nat.{ℕ, _<_}
 use native.Mathlib.Omega.{arith}
 use lib.Dec.{ltb, eqb}
 use borrow.Author.Tests.{ltb-true, ne-eqb}
-use Rattle.math.specs.Choice.{both-true}
+use Rattle.math.proofs.Choice.{both-true}
 use Rattle.refusals.specs.Table.{Reason, reason, lowest, ascending, withLine}
 
 -- where no line applies, the first does not, nor any after it

@@ -4,7 +4,7 @@ use mathlib.Core.List.{List, [], _∷_, _++_, foldl}
 use Prim.Native.Nat.{ℕ, _+_, _≤_, _<_}
 use native.Mathlib.Omega.{arith}
 use lib.ListN.{length}
-use Rattle.math.specs.Fold.{fold-next}
+use Rattle.math.proofs.Fold.{fold-next}
 use Rattle.sinkshow.specs.declared.Run.{Run}
 use Rattle.sinkshow.specs.declared.Next.{Next}
 use Rattle.sinkshow.specs.declared.Next.the-variants.{From, End}

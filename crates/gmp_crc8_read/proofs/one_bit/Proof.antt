@@ -3,7 +3,7 @@
 -- nothing.
 use borrow.Author.Needs.{needs}
 use Rattle.math.specs.Bits.{bits}
-use Rattle.math.specs.Finite.{agree-below, agree-goal}
+use Rattle.math.proofs.Finite.{agree-below, agree-goal}
 use Rattle.gmp_crc8.specs.Division.{reduce, divide}
 use Rattle.gmp_crc8.specs.Check.{remainder, syndrome}
 use Rattle.gmp_crc8.specs.Reading.{bitIn, oneBit}

@@ -5,8 +5,8 @@
 -- stands last. Assumes nothing.
 use borrow.Author.Needs.{needs}
 use Rattle.math.specs.Bits.{bits}
-use Rattle.math.specs.Finite.{agree-goal}
-use Rattle.math.specs.Linear.{linear-agree, linear·rules}
+use Rattle.math.proofs.Finite.{agree-goal}
+use Rattle.math.proofs.Linear.{linear-agree, linear·rules}
 use Rattle.gmp_crc8.specs.Division.{reduce, divide}
 use Rattle.gmp_crc8.proofs.Linear.{times-linear}
 use Rattle.gmp_crc8_read.proofs.times_x8.Statement.{statement}
