@@ -6,7 +6,7 @@ use Prim.Native.Nat.{ℕ, _+_, _≤_}
 use native.Mathlib.Omega.{arith}
 use lib.Dec.{eqb, lit≤, lit<}
 use borrow.Author.Tests.{eq-eqb}
-use Rattle.gmp_places.specs.Even.{placesIn, Even}
+use Rattle.gmp_places.specs.Even.{Even}
 use Rattle.gmp_places.proofs.Even.{lie-evenly}
 use Rattle.gmp_payload_type.specs.Types.{timesSeen}
 use Rattle.claim_recovery.proofs.Claims.{demand, recovers-alone, three-come, costs-nothing}
@@ -43,12 +43,6 @@ told-with wrong mended e s on source calls run m n z held reader reads i low hig
 opu0-run : (C a L : ℕ) → C ≤ 15232 → a + L ≤ 15232 → Even C 15232 a L
 opu0-run C a L le run = lie-evenly .every-run 3808 C a L (lit< tt) le run
 
-exact-run : (a : ℕ) → a + 1904 ≤ 15232 → placesIn 14408 15232 a 1904 ≡ 1801
-exact-run a run = let e = opu0-run 14408 a 1904 (lit≤ tt) run in omega (arith, e .above, e .below)
-
-card-run : (a : ℕ) → a + 1000 ≤ 15232 → (945 ≤ placesIn 14407 15232 a 1000) × (placesIn 14407 15232 a 1000 ≤ 946)
-card-run a run = let e = opu0-run 14407 a 1000 (lit≤ tt) run in (omega (arith, e .below), omega (arith, e .above))
-
 pub enough : Enough
 enough =
     record {
@@ -69,8 +63,8 @@ enough =
       three-come = λ s source calls run m one far. three-come s source calls run m (m + 768) one (omega arith) (omega arith);
       three-bits = demand .no-false-count false;
       two-bits = demand .no-false-count true;
-      one-told = told-with 1 true refl;
-      none-told = told-with 0 false refl;
-      exact-run = exact-run;
-      card-run = card-run;
+      one-told = told-with 1 _ refl;
+      none-told = told-with 0 _ refl;
+      exact-run = λ a run. let e = opu0-run 14408 a 1904 (lit≤ tt) run in omega (arith, e .above, e .below);
+      card-run = λ a run. let e = opu0-run 14407 a 1000 (lit≤ tt) run in (omega (arith, e .below), omega (arith, e .above));
     }

@@ -1,5 +1,5 @@
 -- Worked words of tables that settings may carry (02, P11). Those of 01 are starred, and stand in
--- the crate claim_worked. Assumes nothing.
+-- the crate claim_worked; one of them stands here too. Assumes nothing.
 use mathlib.Core.Path.{_≡_, refl}
 use mathlib.Core.Bool.{false}
 use Prim.Native.Nat.{ℕ}
@@ -9,7 +9,7 @@ use Rattle.gmp_settings.specs.Settings.{newSettings, withPatterns, opu0, outsid
 use Rattle.gmp_settings.specs.Patterns.{badFour}
 use Rattle.gmp_settings.specs.Worked.{four, oneBitWrong}
 use Rattle.gmp_standing.specs.declared.Count.the-variants.{Known, Unknown}
-use Rattle.gmp_standing.specs.Standing.{finding, PAIRED, WAITING, OUTSIDE}
+use Rattle.gmp_standing.specs.Standing.{finding, TRACKED, PAIRED, WAITING, OUTSIDE}
 use Rattle.gmp_standing.specs.Known.{inWindow}
 use Rattle.gmp_control.specs.declared.WordBytes.{WordBytes}
 use Rattle.gmp_control.specs.declared.Remembered.the-variants.{Word, Nothing}
@@ -24,6 +24,15 @@ bytes a b = record { jc1 = a; jc2 = b }
 -- the window 0 to 15232 on OPU0's grid
 abbrev pub wide : Settings
 wide = newSettings 3808 0 15232
+
+-- "Window 0 to 15232, known count 2932 (false), no word: 4B B6 38 is TRACKED to 2934; then 4B 8A 19
+-- is PAIRED, 14409." Of the starred cases this one stands here too: it is what goes wrong at a sink
+-- that forgets the remembered word while a count is known (the edit word_forgotten_in_step).
+pub false-count :
+    (found wide (Known 2932) Nothing (wordBy 0x4B 0xB6) ≡ finding TRACKED (Known 2934))
+    × (found wide (Known 2934) (Word (wordBy 0x4B 0xB6)) (wordBy 0x4B 0x8A) ≡ finding PAIRED (Known 14409))
+unfolding foundBy inWindow usable tracked candidate paired reading equalIndicators tableOf outside
+false-count = (refl, refl)
 
 -- Zero patterns, and a plus pattern that is a minus pattern: the table 0, 0, 1, 1 keeps the rule,
 -- since its exclusive-ors are 1 and 1. The two possible counts of E1 1E 74, which a source writes
