@@ -16,7 +16,7 @@ use gmp_standing::Count;
 ghost use mathlib.Core.Path.{_≡_};
 ghost use Rattle.gmp_sink.specs.Sink.{newSink, answerMeaning};
 ghost use Rattle.c_settings.specs.Numbers.{settingsFrom};
-ghost use Rattle.c_sink_numbers.specs.Numbers.{countFrom, countFlag, countValue, wordFrom, wordFlag, wordValue, acceptedFrom, acceptedFlag, acceptedType, seenFrom, seenTimes, seenType, stateFrom, stateNumbers, flagOf, sinkReplyBy, SinkCallPromise};
+ghost use Rattle.c_sink_numbers.specs.Numbers.{countFrom, countFlag, countValue, wordFrom, wordFlag, wordValue, acceptedFrom, acceptedFlag, acceptedType, seenFrom, seenTimes, seenType, stateFrom, stateNumbers, flagOf, sinkReplyBy, InterfacePromise};
 
 // A flag, 0 for none, beside the number.
 struct Flagged {
@@ -47,7 +47,7 @@ pub extern "C" fn odu0_sink_call(
     port: u32,
     tallies: &mut [u32; 24],
 ) -> SinkReply
-    ensures { λ r. ⌜ SinkCallPromise (settingsFrom settings) state expected (now (frame .entry)) (now (out .entry)) port (now (tallies .entry)) r (now (out .exit)) (now (tallies .exit)) ⌝ }
+    ensures { λ r. ⌜ InterfacePromise (settingsFrom settings) state expected (now (frame .entry)) (now (out .entry)) port (now (tallies .entry)) r (now (out .exit)) (now (tallies .exit)) ⌝ }
 {
     let before = c_tally::tallies_from(*tallies);
     let card = c_settings::settings_from(settings);

@@ -150,7 +150,7 @@ talliesNumbers y = numbersOf ports y
 
 -- What the sink call promises: its reply, every byte of the output buffer, and the 24 numbers of
 -- the tallies.
-pub record SinkCallPromise (s : Settings) (x : SinkNumbers) (e : Expected) (frame out : List ℕ) (port : ℕ) (tallies : List ℕ) (r : SinkReply) (out-after tallies-after : List ℕ) : Type 0 where
+pub record InterfacePromise (s : Settings) (x : SinkNumbers) (e : Expected) (frame out : List ℕ) (port : ℕ) (tallies : List ℕ) (r : SinkReply) (out-after tallies-after : List ℕ) : Type 0 where
   pub reply : r ≡ sinkReply s x (stateFrom x) e frame out port
   pub out-buffer : out-after ≡ sinkOut s (stateFrom x) e frame out port
   pub tallies-numbers : tallies-after ≡ talliesNumbers (talliesAfter s (stateFrom x) e frame out port (talliesFrom tallies))

@@ -10,7 +10,7 @@ use gmp_standing::Standing;
 ghost use mathlib.Core.Path.{_≡_};
 ghost use Rattle.gmp_standing.specs.Standing.{standingMeaning};
 ghost use Rattle.gmp_sink.specs.Sink.{answerMeaning};
-ghost use Rattle.card_promise.specs.Card.{badFrames, talliesBy, CallPromise};
+ghost use Rattle.card_promise.specs.Card.{badFrames, talliesBy, CardPromise};
 
 // What a call returns, with the tallies after it.
 pub struct Counted {
@@ -28,7 +28,7 @@ pub fn count_call(
     port: u32,
     tallies: Tallies,
 ) -> Counted
-    ensures { λ r. ⌜ CallPromise settings state expected (now (frame .entry)) (now (out .entry)) port tallies (r .result) (now (out .exit)) (r .tallies) ⌝ }
+    ensures { λ r. ⌜ CardPromise settings state expected (now (frame .entry)) (now (out .entry)) port tallies (r .result) (now (out .exit)) (r .tallies) ⌝ }
 {
     let result = gmp_sink_call::take_frame(settings, state, expected, frame, out, port);
     let answer = result.answer;

@@ -30,7 +30,7 @@ unfoldable pub talliesAfter : Settings → SinkState → Expected → List ℕ �
 talliesAfter s z e frame out port y = talliesBy (sinkAnswer s z frame out port) port (length (sinkHanded s z e frame out port)) y
 
 -- What a call with the tallies promises: what the sink promises, and the tallies.
-pub record CallPromise (s : Settings) (z : SinkState) (e : Expected) (frame out : List ℕ) (port : ℕ) (y : Tallies) (r : SinkResult) (after : List ℕ) (tallies-after : Tallies) : Type 0 where
+pub record CardPromise (s : Settings) (z : SinkState) (e : Expected) (frame out : List ℕ) (port : ℕ) (y : Tallies) (r : SinkResult) (after : List ℕ) (tallies-after : Tallies) : Type 0 where
   pub sink : SinkPromise s z e frame out port r after
   pub tallies : tallies-after ≡ talliesAfter s z e frame out port y
 

@@ -5,7 +5,7 @@ use gmp_payload_type::Expected;
 use gmp_settings::Settings;
 use gmp_sink::SinkResult;
 use gmp_sink::SinkState;
-ghost use Rattle.card_promise.specs.Card.{CallPromise};
+ghost use Rattle.card_promise.specs.Card.{CardPromise};
 
 // One call of the sink of a port. The tallies are changed where the caller keeps them: by an
 // accepted call only, and then in the numbers of its own port only.
@@ -18,7 +18,7 @@ pub fn sink_call(
     port: u32,
     tallies: &mut Tallies,
 ) -> SinkResult
-    ensures { λ r. ⌜ CallPromise settings state expected (now (frame .entry)) (now (out .entry)) port (now (tallies .entry)) r (now (out .exit)) (now (tallies .exit)) ⌝ }
+    ensures { λ r. ⌜ CardPromise settings state expected (now (frame .entry)) (now (out .entry)) port (now (tallies .entry)) r (now (out .exit)) (now (tallies .exit)) ⌝ }
 {
     let counted = card_count::count_call(settings, state, expected, frame, out, port, *tallies);
     *tallies = counted.tallies;
@@ -36,7 +36,7 @@ pub fn lend_call(
     port: u32,
     tallies: Tallies,
 ) -> Counted
-    ensures { λ r. ⌜ CallPromise settings state expected (now (frame .entry)) (now (out .entry)) port tallies (r .result) (now (out .exit)) (r .tallies) ⌝ }
+    ensures { λ r. ⌜ CardPromise settings state expected (now (frame .entry)) (now (out .entry)) port tallies (r .result) (now (out .exit)) (r .tallies) ⌝ }
 {
     let mut kept = tallies;
     let result = sink_call(settings, state, expected, frame, out, port, &mut kept);

@@ -8,7 +8,7 @@ use lib.ListN.{length}
 use Rattle.math.specs.Bits.{bits, differing}
 use Rattle.gmp_crc8.specs.Division.{reduce, divide}
 use Rattle.gmp_crc8.specs.Check.{remainder, passes, word}
-use Rattle.gmp_crc8.specs.Reading.{readAs}
+use Rattle.gmp_crc8.specs.Checked.{checkedWord}
 use Rattle.refusals.specs.Table.{accepts}
 use Rattle.gmp_refusal.specs.declared.Refusal.the-variants.{Grid, Port}
 use Rattle.gmp_refusal.specs.declared.Verdict.{Verdict}
@@ -19,7 +19,7 @@ use Rattle.gmp_standing.specs.declared.Standing.the-variants.{Tracked, Paired, 
 use Rattle.gmp_standing.specs.Known.{inWindow}
 use Rattle.gmp_control.specs.Word.{equalIndicators}
 use Rattle.gmp_control.specs.Pattern.{tableOf}
-use Rattle.gmp_control.specs.Follow.{usable, tracked, candidate, paired, reading, foundBy}
+use Rattle.gmp_control.specs.Follow.{usable, tracked, candidate, paired, reached, foundBy}
 use Rattle.gmp_places.specs.Places.{places, chosen}
 use Rattle.gmp_frame.specs.Frame.{columns, payload, clientBytes, controlOf}
 use Rattle.gmp_payload_type.specs.Types.{judged, typesAfter, gateOpen}
@@ -33,7 +33,7 @@ use Rattle.gmp_sink.specs.declared.SinkAnswer.{SinkAnswer}
 use Rattle.gmp_sink.specs.declared.SinkAnswer.the-variants.{Done, Refused as TurnedBack}
 use Rattle.gmp_sink.specs.Sink.{newSink, answerMeaning, sinkRefusal, sinkAnswer, handed, released, standingAfter, stateAfter, sinkState, sinkHanded}
 use Rattle.claim_recovery.specs.Runs.{SourceCall, SinkCall, SourceStep, SinkStep, refusalOf, sourceAfter, sinkAfter, sinkSteps, frameOf, answerOf, mendedOf, handedOf, outOf}
-use Rattle.claim_worked.specs.Run.{small, wrong, room, send, source, frame1, frame2, frame3, hearOn, lost}
+use Rattle.claim_worked.specs.Run.{small, wrong, room, send, source, frame1, frame2, frame3, lendOn, lost}
 use Rattle.claim_calls.specs.Observed.{SourceSeen, SinkSeen, SinkPassed, sinkCalls, sinkTaken}
 use Rattle.claim_calls.specs.Worked.{onOne, handedNumbers, WorkedSeen}
 use Rattle.claim_calls.proofs.Observed.{as-defined}
@@ -76,22 +76,22 @@ unfolding sourceRefusal sourceState outside
 source-answers = (refl, refl, refl)
 
 abbrev y1 : SinkStep
-y1 = record { call = hearOn 1 small frame1 tt room; state = newSink }
+y1 = record { call = lendOn 1 small frame1 tt room; state = newSink }
 
 abbrev y2 : SinkStep
-y2 = record { call = hearOn 9 small frame1 tt room; state = sinkAfter y1 }
+y2 = record { call = lendOn 9 small frame1 tt room; state = sinkAfter y1 }
 
 abbrev y3 : SinkStep
-y3 = record { call = hearOn 1 small frame2 tt room; state = sinkAfter y2 }
+y3 = record { call = lendOn 1 small frame2 tt room; state = sinkAfter y2 }
 
 abbrev w1 : SinkStep
-w1 = record { call = hearOn 5 small frame2 tt room; state = lost }
+w1 = record { call = lendOn 5 small frame2 tt room; state = lost }
 
 abbrev y4 : SinkStep
-y4 = record { call = hearOn 1 small frame3 tt room; state = sinkAfter y3 }
+y4 = record { call = lendOn 1 small frame3 tt room; state = sinkAfter y3 }
 
 sink-answers : (answerMeaning (Done Waiting) ≡ answerOf y1) × (answerMeaning (TurnedBack Port) ≡ answerOf y2) × (answerMeaning (Done (Paired 6)) ≡ answerOf y3) × (answerMeaning (Done Waiting) ≡ answerOf w1) × (answerMeaning (Done (Tracked 5)) ≡ answerOf y4)
-unfolding sinkRefusal sinkAnswer sinkState standingAfter stateAfter controlOf foundBy reading inWindow usable tracked candidate paired equalIndicators passes readAs remainder divide reduce bits outside word differing tableOf
+unfolding sinkRefusal sinkAnswer sinkState standingAfter stateAfter controlOf foundBy reached inWindow usable tracked candidate paired equalIndicators passes checkedWord remainder divide reduce bits outside word differing tableOf
 sink-answers = (refl, refl, refl, refl, refl)
 
 abbrev t1 : Tallies
@@ -124,7 +124,7 @@ numbers-are (c ∷ cs) =
     ∙ lengths-cond b (c .step) (sinkTaken cs)
 
 one-lengths : lengths (sinkSteps newSink onOne) ≡ 0 ∷ 0 ∷ 6 ∷ []
-unfolding sinkSteps remainder divide reduce bits outside sinkRefusal sinkState sinkHanded released gateOpen typesAfter judged handed standingAfter stateAfter controlOf foundBy reading inWindow usable tracked candidate paired equalIndicators passes readAs clientBytes chosen payload columns places word differing xor tableOf
+unfolding sinkSteps remainder divide reduce bits outside sinkRefusal sinkState sinkHanded released gateOpen typesAfter judged handed standingAfter stateAfter controlOf foundBy reached inWindow usable tracked candidate paired equalIndicators passes checkedWord clientBytes chosen payload columns places word differing xor tableOf
 one-lengths = refl
 
 one-handed : (seen : List SinkSeen) (e : SinkState) → SinkPassed newSink seen e → sinkCalls seen ≡ onOne → handedNumbers seen ≡ 0 ∷ 0 ∷ 6 ∷ []

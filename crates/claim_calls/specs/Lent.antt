@@ -14,7 +14,7 @@ use contract.Lifetimes.{Lfts}
 use denote.Triple.Entry.{Args}
 use denote.Triple.Clauses.{AtExit}
 use Rattle.gmp_sink.specs.declared.SinkResult.{SinkResult}
-use Rattle.card_promise.specs.Card.{CallPromise}
+use Rattle.card_promise.specs.Card.{CardPromise}
 use Rattle.card_sink.proofs.sink_call as call
 
 abbrev pub LentPromises : Type 2
@@ -22,4 +22,4 @@ LentPromises =
     (M : Type 1) (𝓤 : URA M) (H : Heap 𝓤) (A : Atoms 𝓤) (mem : Memory → SProp 𝓤) (run : Routine → Fun 𝓤) (κs : Lfts 3)
     (a : Args call.signature κs) (r : SinkResult) (e : AtExit call.ended κs)
     → call.clauses 𝓤 H A mem run κs a .ensures tt r e
-    ≡ fact 𝓤 (CallPromise (a .0) (a .1 .0) (a .1 .1 .0) (a .1 .1 .1 .0 .now) (a .1 .1 .1 .1 .0 .now) (a .1 .1 .1 .1 .1 .0) (a .1 .1 .1 .1 .1 .1 .0 .now) r (e .1 .1 .1 .1 .0 .now) (e .1 .1 .1 .1 .1 .1 .0 .now))
+    ≡ fact 𝓤 (CardPromise (a .0) (a .1 .0) (a .1 .1 .0) (a .1 .1 .1 .0 .now) (a .1 .1 .1 .1 .0 .now) (a .1 .1 .1 .1 .1 .0) (a .1 .1 .1 .1 .1 .1 .0 .now) r (e .1 .1 .1 .1 .0 .now) (e .1 .1 .1 .1 .1 .1 .0 .now))

@@ -25,7 +25,7 @@ use Rattle.gmp_sink.specs.declared.SinkResult.{SinkResult}
 use Rattle.gmp_sink.specs.Sink.{answerMeaning, newSink}
 use Rattle.gmp_sink.proofs.new_sink.Reads as new-reading
 use Rattle.card_count.specs.declared.Counted.{Counted}
-use Rattle.card_promise.specs.Card.{CallPromise}
+use Rattle.card_promise.specs.Card.{CardPromise}
 use Rattle.card_count.proofs.count_call.Reads as count-reading
 use Rattle.card_sink.proofs.lend_call.Reads as lend-reading
 use Rattle.claim_recovery.specs.Runs.{SourceCall, SinkCall, SourceStep, SinkStep, refusalOf, sourceSteps, sinkSteps, sinkEnd, frameOf, answerOf, mendedOf, handedOf, outOf}
@@ -46,7 +46,7 @@ pub record SinkSeen : Type 0 where
   pub result : SinkResult
   pub out : List ℕ
   pub tallies-after : Tallies
-  pub kept : CallPromise (step .call .settings) (step .state) (step .call .expected) (step .call .frame) (step .call .out) (step .call .port) tallies result out tallies-after
+  pub kept : CardPromise (step .call .settings) (step .state) (step .call .expected) (step .call .frame) (step .call .out) (step .call .port) tallies result out tallies-after
 
 -- "Each call gets the state that the call before it in its list returned", the first one z,
 abbrev pub SourcePassed : SourceState → List SourceSeen → Type 0
@@ -100,10 +100,10 @@ pub record ContractsPromise : Type 0 where
       → SourcePromise s z next (client .now) (buffer .now) r frame
   pub count-call : (κs : Lfts 2) (s : Settings) (z : SinkState) (w : Expected) (frame buffer : RefT (List ℕ)) (port : ℕ) (y : Tallies) (r : Counted) (out : List ℕ)
       → count-reading.Learnt κs (s, (z, (w, (frame, (buffer, (port, (y, tt))))))) r (s, (z, (w, (frame, (at-last buffer out, (port, (y, tt)))))))
-      → CallPromise s z w (frame .now) (buffer .now) port y (r .result) out (r .tallies)
+      → CardPromise s z w (frame .now) (buffer .now) port y (r .result) out (r .tallies)
   pub lend-call : (κs : Lfts 2) (s : Settings) (z : SinkState) (w : Expected) (frame buffer : RefT (List ℕ)) (port : ℕ) (y : Tallies) (r : Counted) (out : List ℕ)
       → lend-reading.Learnt κs (s, (z, (w, (frame, (buffer, (port, (y, tt))))))) r (s, (z, (w, (frame, (at-last buffer out, (port, (y, tt)))))))
-      → CallPromise s z w (frame .now) (buffer .now) port y (r .result) out (r .tallies)
+      → CardPromise s z w (frame .now) (buffer .now) port y (r .result) out (r .tallies)
 
 -- Calls that keep their promises go as the definitions go. The accepted calls of a run are its
 -- steps, each answers, says of mending and leaves in its buffer what the step does, and the last

@@ -11,7 +11,7 @@ use Rattle.card_tally.specs.Ports.{newTallies}
 use Rattle.gmp_sink.specs.declared.SinkState.{SinkState}
 use Rattle.gmp_sink.specs.Sink.{answerMeaning, newSink}
 use Rattle.claim_recovery.specs.Runs.{SourceCall, SinkCall}
-use Rattle.claim_worked.specs.Run.{small, wrong, room, send, source, frame1, frame2, frame3, hearOn, lost}
+use Rattle.claim_worked.specs.Run.{small, wrong, room, send, source, frame1, frame2, frame3, lendOn, lost}
 use Rattle.claim_calls.specs.Observed.{SourceSeen, SinkSeen, SourcePassed, SinkPassed, TalliesPassed, sourceCalls, sinkCalls}
 
 -- a count of 3 and then of 4, and between them a call that number 1 turns back
@@ -20,10 +20,10 @@ sent = send small 4 (11 ∷ 12 ∷ 13 ∷ []) ∷ send wrong 4 (11 ∷ 12 ∷ 13
 
 -- a new sink on port 1, with a call that number 10 turns back, and one with a false count on port 5
 abbrev pub onOne : List SinkCall
-onOne = hearOn 1 small frame1 tt room ∷ hearOn 9 small frame1 tt room ∷ hearOn 1 small frame2 tt room ∷ hearOn 1 small frame3 tt room ∷ []
+onOne = lendOn 1 small frame1 tt room ∷ lendOn 9 small frame1 tt room ∷ lendOn 1 small frame2 tt room ∷ lendOn 1 small frame3 tt room ∷ []
 
 abbrev pub onFive : List SinkCall
-onFive = hearOn 5 small frame2 tt room ∷ []
+onFive = lendOn 5 small frame2 tt room ∷ []
 
 -- how many bytes the accepted calls of these said to hand out
 abbrev pub handedNumbers : List SinkSeen → List ℕ

@@ -2,8 +2,8 @@
 use mathlib.Core.Path.{_≡_, refl, _∙_}
 use mathlib.Core.Bool.{Bool, true, false, cond}
 use Prim.Native.Nat.{ℕ}
-use Rattle.gmp_crc8.specs.declared.Reading.{Reading}
-use Rattle.gmp_crc8.specs.declared.Reading.the-variants.{Whole, Mended, Bad}
+use Rattle.gmp_crc8.specs.declared.CheckedWord.{CheckedWord}
+use Rattle.gmp_crc8.specs.declared.CheckedWord.the-variants.{Whole, Mended, Bad}
 use Rattle.gmp_settings.specs.declared.Settings.{Settings}
 use Rattle.gmp_settings.specs.Settings.{outside}
 use Rattle.gmp_standing.specs.declared.Count.{Count}
@@ -15,10 +15,10 @@ use Rattle.gmp_standing.specs.Known.{inWindow}
 use Rattle.gmp_control.specs.declared.Remembered.{Remembered}
 use Rattle.gmp_control.specs.Word.{countBits, equalIndicators, wordBy}
 use Rattle.gmp_control.specs.Pattern.{Table, tableOf}
-use Rattle.gmp_control.specs.Follow.{usable, fromCount, fromWord, trackedElsePaired, reading, windowedBy, foundBy}
+use Rattle.gmp_control.specs.Follow.{usable, fromCount, fromWord, trackedElsePaired, reached, windowedBy, foundBy}
 use Rattle.gmp_frame.specs.declared.Control.{Control}
 use Rattle.gmp_sink.specs.declared.SinkState.{SinkState}
-use Rattle.gmp_sink.specs.Sink.{readingOf, standingBy, standingAfter}
+use Rattle.gmp_sink.specs.Sink.{checkedIn, standingBy, standingAfter}
 use Rattle.gmp_sink.proofs.Laws.{standing-read}
 
 abbrev pub Named : Finding → Type 0
@@ -38,19 +38,19 @@ in-window s f (Known n) p = choice (outside s n) (finding OUTSIDE Unknown) f (Ou
 in-window s f Unknown p = p
 
 found-named : (t : Table) (s : Settings) (count : Count) (before : Remembered) (w : ℕ) → Named (foundBy t s count before w)
-unfolding foundBy reading
+unfolding foundBy reached
 found-named t s count before w =
     let rule-3 : Finding = trackedElsePaired (fromCount t (inWindow s count) w) (fromWord t (usable before) w) in
     let f : Finding = cond (equalIndicators w) (finding READ (Known (countBits w))) rule-3 in
     in-window s f (f .count)
     (choice (equalIndicators w) (finding READ (Known (countBits w))) rule-3 (Read (countBits w), refl) (by-rule-3 (fromCount t (inWindow s count) w) (fromWord t (usable before) w)))
 
-read-named : (s : Settings) (z : SinkState) (r : Reading) → Named (standingBy s z r)
+read-named : (s : Settings) (z : SinkState) (r : CheckedWord) → Named (standingBy s z r)
 read-named s z (Whole w) = found-named (tableOf s) s (z .count) (z .word) (wordBy (w .jc1) (w .jc2))
 read-named s z (Mended w) = found-named (tableOf s) s (z .count) (z .word) (wordBy (w .jc1) (w .jc2))
 read-named s z Bad = (BadCheck, refl)
 
 pub named : (s : Settings) (z : SinkState) (c : Control) → Named (standingAfter s z c)
 named s z c =
-    let n = read-named s z (readingOf s c) in
-    (n .0, standing-read s z c (readingOf s c) refl ∙ n .1)
+    let n = read-named s z (checkedIn s c) in
+    (n .0, standing-read s z c (checkedIn s c) refl ∙ n .1)

@@ -31,7 +31,7 @@ use Rattle.c_rate.proofs.odu0_keeper_new.Reads as keeper-new
 use Rattle.c_rate.proofs.odu0_keeper_call.Reads as keeper-call
 use Rattle.c_sink_numbers.specs.declared.SinkNumbers.{SinkNumbers}
 use Rattle.c_sink_numbers.specs.declared.SinkReply.{SinkReply}
-use Rattle.c_sink_numbers.specs.Numbers.{stateFrom, stateNumbers, talliesFrom, talliesNumbers, SinkCallPromise}
+use Rattle.c_sink_numbers.specs.Numbers.{stateFrom, stateNumbers, talliesFrom, talliesNumbers, InterfacePromise}
 use Rattle.c_sink_numbers.specs.Lossless.{answerFrom, mendedFrom}
 use Rattle.c_sink.proofs.odu0_sink_new.Reads as sink-new
 use Rattle.c_sink.proofs.odu0_sink_call.Reads as sink-call
@@ -74,7 +74,7 @@ pub record SinkSeen : Type 0 where
   pub reply : SinkReply
   pub out : List ℕ
   pub tallies-after : List ℕ
-  pub kept : SinkCallPromise (settingsFrom (given .settings)) state (given .expected) (given .frame) (given .out) (given .port) tallies reply out tallies-after
+  pub kept : InterfacePromise (settingsFrom (given .settings)) state (given .expected) (given .frame) (given .out) (given .port) tallies reply out tallies-after
 
 pub record KeeperSeen : Type 0 where
   pub given : KeeperGiven
@@ -179,7 +179,7 @@ pub record ContractsPromise : Type 0 where
   pub sink-begins : (κs : Lfts 0) (r : SinkNumbers) → sink-new.Learnt κs tt r tt → r ≡ stateNumbers newSink
   pub sink : (κs : Lfts 3) (s : SettingsNumbers) (x : SinkNumbers) (w : Expected) (frame buffer : RefT (List ℕ)) (port : ℕ) (tallies : RefT (List ℕ)) (r : SinkReply) (out t : List ℕ)
       → sink-call.Learnt κs (s, (x, (w, (frame, (buffer, (port, (tallies, tt))))))) r (s, (x, (w, (frame, (at-last buffer out, (port, (at-last tallies t, tt)))))))
-      → SinkCallPromise (settingsFrom s) x w (frame .now) (buffer .now) port (tallies .now) r out t
+      → InterfacePromise (settingsFrom s) x w (frame .now) (buffer .now) port (tallies .now) r out t
   pub keeper-begins : (κs : Lfts 0) (q r : ℕ) → keeper-new.Learnt κs (q, tt) r (q, tt) → r ≡ firstRemainder q
   pub keeper : (κs : Lfts 0) (s : SettingsNumbers) (p q r : ℕ) (k : KeeperReply) → keeper-call.Learnt κs (s, (p, (q, (r, tt)))) k (s, (p, (q, (r, tt))))
       → k ≡ keeperReply (keeperCall (settingsFrom s) p q r)

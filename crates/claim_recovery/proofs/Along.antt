@@ -11,9 +11,9 @@ use native.Mathlib.Omega.{arith}
 use lib.Dec.{eqb, lit<}
 use lib.ListN.{length, drop, getD}
 use Rattle.gmp_crc8.specs.declared.ReadWord.{ReadWord}
-use Rattle.gmp_crc8.specs.declared.Reading.{Reading}
-use Rattle.gmp_crc8.specs.declared.Reading.the-variants.{Whole, Mended, Bad}
-use Rattle.gmp_crc8.specs.Reading.{readWord, readAs}
+use Rattle.gmp_crc8.specs.declared.CheckedWord.{CheckedWord}
+use Rattle.gmp_crc8.specs.declared.CheckedWord.the-variants.{Whole, Mended, Bad}
+use Rattle.gmp_crc8.specs.Checked.{readWord, checkedWord}
 use Rattle.gmp_crc8.specs.Claims.{budget, IsOrBad}
 use Rattle.gmp_crc8.proofs.Laws.{passed-whole, reads-as-itself, mends-one-bit}
 use Rattle.gmp_settings.specs.declared.Settings.{Settings}
@@ -31,7 +31,7 @@ use Rattle.gmp_control.specs.Pattern.{tableOf}
 use Rattle.gmp_control.specs.Announce.{announced}
 use Rattle.gmp_control.specs.Follow.{usable, found}
 use Rattle.gmp_control.proofs.Tables.{rule-of}
-use Rattle.gmp_control.proofs.Reading.{NoneOr}
+use Rattle.gmp_control.proofs.Reached.{NoneOr}
 use Rattle.gmp_control.proofs.Laws.{in-window-known, Safe, safe-none, follows-true-count, recovers-in-two, stays-safe}
 use Rattle.gmp_frame.specs.declared.Control.{Control}
 use Rattle.gmp_frame.specs.Frame.{controlOf, psiOf, clientBytes}
@@ -40,7 +40,7 @@ use Rattle.gmp_payload_type.specs.Types.{gateOpen}
 use Rattle.gmp_source.specs.Source.{controlBytes, written}
 use Rattle.gmp_source.proofs.Laws as source
 use Rattle.gmp_sink.specs.declared.SinkState.{SinkState}
-use Rattle.gmp_sink.specs.Sink.{newSink, handed, released, readingOf, standingBy, standingAfter, wordAfter, stateAfter, isMended, mendedIn}
+use Rattle.gmp_sink.specs.Sink.{newSink, handed, released, checkedIn, standingBy, standingAfter, wordAfter, stateAfter, isMended, mendedIn}
 use Rattle.gmp_sink.proofs.Laws as sink
 use Rattle.claim_recovery.specs.Runs.{Bytes, SourceStep, SinkStep, sinkAfter, frameOf, loadOf, countOf, answerOf, mendedOf, handedOf}
 use Rattle.claim_recovery.specs.Demand.{Unharmed, wrongControlBits, AtMostWrong, equalFrame, Hands}
@@ -84,7 +84,7 @@ module _ (s : Settings) (old next : ℕ) where
   abbrev writtenWord : ReadWord
   writtenWord = let c = controlBytes s old next in readWord (c .jc1) (c .jc2)
 
-  whole-written : readingOf s (controlBytes s old next) ≡ Whole writtenWord
+  whole-written : checkedIn s (controlBytes s old next) ≡ Whole writtenWord
   whole-written = let c = controlBytes s old next in passed-whole (s .mending) (c .jc1) (c .jc2) (c .jc3) (source.control-passes s old next)
 
   standing-written : (z : SinkState) → standingAfter s z (controlBytes s old next) ≡ found s (z .count) (z .word) (announced (tableOf s) old next)
@@ -263,7 +263,7 @@ module _ (s : Settings) (old : ℕ) (x : SourceStep) (y : SinkStep) (link : Link
   wrong-is = ap (λ (c : Control). wrongControlBits c lent) (control-is s old x link)
 
   -- a reading that leads where the written word does
-  as-word : (r : Reading) → readingOf s lent ≡ r → ((z : SinkState) → standingBy s z r ≡ standingBy s z (Whole (writtenWord s old (countOf x))))
+  as-word : (r : CheckedWord) → checkedIn s lent ≡ r → ((z : SinkState) → standingBy s z r ≡ standingBy s z (Whole (writtenWord s old (countOf x))))
       → wordAfter r ≡ wordAfter (Whole (writtenWord s old (countOf x))) → SameWord s x y
   as-word r e f g =
       let c = controlBytes s old (countOf x) in
@@ -275,18 +275,18 @@ module _ (s : Settings) (old : ℕ) (x : SourceStep) (y : SinkStep) (link : Link
             ∙ sym (ap (λ (q : Control). stateAfter s z q .word) (control-is s old x link) ∙ sink.word-read s z c (Whole (writtenWord s old (countOf x))) whole);
       }
 
-  itself : (r : Reading) → readingOf s lent ≡ r → (let c = controlBytes s old (countOf x) in IsOrBad (c .jc1) (c .jc2) r) → (readingOf s lent ≡ Bad) ⊎ SameWord s x y
+  itself : (r : CheckedWord) → checkedIn s lent ≡ r → (let c = controlBytes s old (countOf x) in IsOrBad (c .jc1) (c .jc2) r) → (checkedIn s lent ≡ Bad) ⊎ SameWord s x y
   itself (Whole w) e h = inr (as-word (Whole w) e (λ z. ap (λ (v : ReadWord). standingBy s z (Whole v)) h) (ap (λ (v : ReadWord). wordAfter (Whole v)) h))
   itself (Mended w) e h = inr (as-word (Mended w) e (λ z. ap (λ (v : ReadWord). standingBy s z (Mended v)) h) (ap (λ (v : ReadWord). wordAfter (Mended v)) h))
   itself Bad e h = inl e
 
   -- A frame with at most the budget's wrong control bits is bad or leads where the written one
   -- does.
-  few-wrong : (mending : Bool) → s .mending ≡ mending → AtMostWrong (budget mending) s x y → (readingOf s lent ≡ Bad) ⊎ SameWord s x y
+  few-wrong : (mending : Bool) → s .mending ≡ mending → AtMostWrong (budget mending) s x y → (checkedIn s lent ≡ Bad) ⊎ SameWord s x y
   few-wrong mending m h =
       let c = controlBytes s old (countOf x) in
-      itself (readingOf s lent) refl
-      (subst (λ (b : Bool). IsOrBad (c .jc1) (c .jc2) (readAs b (lent .jc1) (lent .jc2) (lent .jc3))) (sym m)
+      itself (checkedIn s lent) refl
+      (subst (λ (b : Bool). IsOrBad (c .jc1) (c .jc2) (checkedWord b (lent .jc1) (lent .jc2) (lent .jc3))) (sym m)
       (reads-as-itself mending (c .jc1) (c .jc2) (c .jc3) (lent .jc1) (lent .jc2) (lent .jc3) (source.control-bytes-lt s old (countOf x))
       (control-lt (s .k) (y .call .frame) (y .call .bytes)) (source.control-passes s old (countOf x)) (subst (λ (n : ℕ). n ≤ budget mending) wrong-is h)))
 
@@ -295,7 +295,7 @@ abbrev SafeState : Settings → ℕ → ℕ → SinkState → Type 0
 SafeState s old count z = Safe (tableOf s) old count (z .count) (z .word)
 
 safe-by : (s : Settings) (before old : ℕ) (x : SourceStep) (z : SinkState) (y : SinkStep) → Link s old x
-    → outside s before ≡ false → SafeState s before old z → (readingOf s (controlOf (s .k) (y .call .frame)) ≡ Bad) ⊎ SameWord s x y
+    → outside s before ≡ false → SafeState s before old z → (checkedIn s (controlOf (s .k) (y .call .frame)) ≡ Bad) ⊎ SameWord s x y
     → SafeState s old (countOf x) (followed s z y)
 safe-by s before old x z y link in-window-before safe (inr same) =
     let t = tableOf s in
@@ -342,7 +342,7 @@ module _ (s : Settings) (on : s .mending ≡ true) (old : ℕ) (x : SourceStep) 
   sent = controlBytes s old (countOf x)
 
   -- by the number of wrong bits: the word is whole, or mended
-  reading-by : (n : ℕ) → wrongControlBits sent got ≡ n → n ≤ 1 → (r : Reading) × (readingOf s got ≡ r) × IsOrBad (sent .jc1) (sent .jc2) r × (isMended r ≡ not (eqb n 0)) × (r ≡ Bad → ⊥)
+  reading-by : (n : ℕ) → wrongControlBits sent got ≡ n → n ≤ 1 → (r : CheckedWord) × (checkedIn s got ≡ r) × IsOrBad (sent .jc1) (sent .jc2) r × (isMended r ≡ not (eqb n 0)) × (r ≡ Bad → ⊥)
   reading-by zero e h = (
     Whole (writtenWord s old (countOf x)),
     mends-one-bit .none (s .mending) (sent .jc1) (sent .jc2) (sent .jc3) (got .jc1) (got .jc2) (got .jc3) (source.control-bytes-lt s old (countOf x))
@@ -353,7 +353,7 @@ module _ (s : Settings) (on : s .mending ≡ true) (old : ℕ) (x : SourceStep) 
   )
   reading-by (suc zero) e h = (
     Mended (writtenWord s old (countOf x)),
-    ap (λ (b : Bool). readAs b (got .jc1) (got .jc2) (got .jc3)) on
+    ap (λ (b : Bool). checkedWord b (got .jc1) (got .jc2) (got .jc3)) on
         ∙ mends-one-bit .one (sent .jc1) (sent .jc2) (sent .jc3) (got .jc1) (got .jc2) (got .jc3) (source.control-bytes-lt s old (countOf x))
         (control-lt (s .k) (y .call .frame) (y .call .bytes)) (source.control-passes s old (countOf x)) e,
     refl,

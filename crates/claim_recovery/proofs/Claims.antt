@@ -13,7 +13,7 @@ use Rattle.gmp_crc8.specs.Claims.{budget}
 use Rattle.gmp_settings.specs.declared.Settings.{Settings}
 use Rattle.gmp_standing.specs.declared.Count.{Count}
 use Rattle.gmp_standing.specs.declared.Count.the-variants.{Known, Unknown}
-use Rattle.gmp_control.proofs.Reading.{NoneOr}
+use Rattle.gmp_control.proofs.Reached.{NoneOr}
 use Rattle.gmp_payload_type.specs.declared.AcceptedType.{AcceptedType}
 use Rattle.gmp_payload_type.specs.declared.Types.{Types}
 use Rattle.gmp_payload_type.specs.Types.{isAccepted, gateOpen}

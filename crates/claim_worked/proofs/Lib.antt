@@ -1,6 +1,6 @@
 mod Starred
 mod Build
-mod Reading
+mod Readable
 mod Two
 mod Run
 mod Customer

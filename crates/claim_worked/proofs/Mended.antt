@@ -5,7 +5,7 @@ use lib.Dec.{lit≤}
 use Rattle.math.specs.Bits.{bits, differing}
 use Rattle.gmp_crc8.specs.Division.{reduce, divide}
 use Rattle.gmp_crc8.specs.Check.{remainder, passes, syndrome, word, wrongBits}
-use Rattle.gmp_crc8.specs.Reading.{oneBit, firstWith, wrongBit, mended, readAs, bitIn, flipped}
+use Rattle.gmp_crc8.specs.Checked.{oneBit, firstWith, wrongBit, mended, checkedWord, bitIn, flipped}
 use Rattle.gmp_crc8.specs.Claims.{budget}
 use Rattle.gmp_settings.specs.Settings.{outside}
 use Rattle.gmp_standing.specs.declared.Count.the-variants.{Known}
@@ -13,7 +13,7 @@ use Rattle.gmp_standing.specs.Known.{inWindow}
 use Rattle.gmp_control.specs.Word.{equalIndicators}
 use Rattle.gmp_control.specs.Pattern.{tableOf}
 use Rattle.gmp_control.specs.Announce.{announced}
-use Rattle.gmp_control.specs.Follow.{usable, tracked, candidate, paired, reading, foundBy}
+use Rattle.gmp_control.specs.Follow.{usable, tracked, candidate, paired, reached, foundBy}
 use Rattle.gmp_places.specs.Places.{places, placed, tabulate, chosen}
 use Rattle.gmp_frame.specs.Frame.{row, frame, columns, payload, clientBytes, controlOf, psiOf}
 use Rattle.gmp_payload_type.specs.Types.{judged, typesAfter, gateOpen}
@@ -30,7 +30,7 @@ use Rattle.claim_worked.specs.Mended.{mends, sendings, bit2, bit3, bit5,
 use Rattle.claim_worked.proofs.Build.{all-nth, reads-by, others-by}
 
 mending-source : SourceRun mends source sendings
-unfolding sourceSteps sinkSteps sinkEnd sourceRefusal sourceState sourceFrame newSource startRefusal written controlBytes announced frame row tabulate placed places remainder divide reduce bits outside sinkRefusal sinkAnswer sinkMended mendedIn sinkState sinkHanded sinkOut released gateOpen typesAfter judged handed standingAfter stateAfter controlOf foundBy reading inWindow usable tracked candidate paired equalIndicators passes readAs mended wrongBit firstWith oneBit syndrome clientBytes chosen payload columns word differing xor tableOf badFramesOf psiOf bitIn flipped wrongBits
+unfolding sourceSteps sinkSteps sinkEnd sourceRefusal sourceState sourceFrame newSource startRefusal written controlBytes announced frame row tabulate placed places remainder divide reduce bits outside sinkRefusal sinkAnswer sinkMended mendedIn sinkState sinkHanded sinkOut released gateOpen typesAfter judged handed standingAfter stateAfter controlOf foundBy reached inWindow usable tracked candidate paired equalIndicators passes checkedWord mended wrongBit firstWith oneBit syndrome clientBytes chosen payload columns word differing xor tableOf badFramesOf psiOf bitIn flipped wrongBits
 mending-source =
     record {
       made-with = mends;
@@ -42,7 +42,7 @@ mending-source =
 
 -- each frame that is read beside the written one, whatever the sink's state is
 ones : (z : SinkState) → Each (OneWrong mends) (sourceSteps source sendings) (sinkSteps z (hearings mends))
-unfolding sourceSteps sinkSteps sinkEnd sourceRefusal sourceState sourceFrame newSource startRefusal written controlBytes announced frame row tabulate placed places remainder divide reduce bits outside sinkRefusal sinkAnswer sinkMended mendedIn sinkState sinkHanded sinkOut released gateOpen typesAfter judged handed standingAfter stateAfter controlOf foundBy reading inWindow usable tracked candidate paired equalIndicators passes readAs mended wrongBit firstWith oneBit syndrome clientBytes chosen payload columns word differing xor tableOf badFramesOf psiOf bitIn flipped wrongBits
+unfolding sourceSteps sinkSteps sinkEnd sourceRefusal sourceState sourceFrame newSource startRefusal written controlBytes announced frame row tabulate placed places remainder divide reduce bits outside sinkRefusal sinkAnswer sinkMended mendedIn sinkState sinkHanded sinkOut released gateOpen typesAfter judged handed standingAfter stateAfter controlOf foundBy reached inWindow usable tracked candidate paired equalIndicators passes checkedWord mended wrongBit firstWith oneBit syndrome clientBytes chosen payload columns word differing xor tableOf badFramesOf psiOf bitIn flipped wrongBits
 ones z = (
   record { control = lit≤ tt; others = others-by 2 frame1 frame1 tt },
   (
@@ -58,7 +58,7 @@ ones z = (
 )
 
 pub mended-run : MendedRun
-unfolding sourceSteps sinkSteps sinkEnd sourceRefusal sourceState sourceFrame newSource startRefusal written controlBytes announced frame row tabulate placed places remainder divide reduce bits outside sinkRefusal sinkAnswer sinkMended mendedIn sinkState sinkHanded sinkOut released gateOpen typesAfter judged handed standingAfter stateAfter controlOf foundBy reading inWindow usable tracked candidate paired equalIndicators passes readAs mended wrongBit firstWith oneBit syndrome clientBytes chosen payload columns word differing xor tableOf badFramesOf psiOf bitIn flipped wrongBits
+unfolding sourceSteps sinkSteps sinkEnd sourceRefusal sourceState sourceFrame newSource startRefusal written controlBytes announced frame row tabulate placed places remainder divide reduce bits outside sinkRefusal sinkAnswer sinkMended mendedIn sinkState sinkHanded sinkOut released gateOpen typesAfter judged handed standingAfter stateAfter controlOf foundBy reached inWindow usable tracked candidate paired equalIndicators passes checkedWord mended wrongBit firstWith oneBit syndrome clientBytes chosen payload columns word differing xor tableOf badFramesOf psiOf bitIn flipped wrongBits
 mended-run =
     record {
       source-run = mending-source;

@@ -11,7 +11,7 @@ use lib.ListN.{getD}
 use Rattle.math.specs.Bits.{bits, differing}
 use Rattle.gmp_crc8.specs.Division.{reduce, divide}
 use Rattle.gmp_crc8.specs.Check.{remainder, passes, syndrome, word, wrongBits}
-use Rattle.gmp_crc8.specs.Reading.{oneBit, firstWith, wrongBit, mended, readAs, bitIn, flipped}
+use Rattle.gmp_crc8.specs.Checked.{oneBit, firstWith, wrongBit, mended, checkedWord, bitIn, flipped}
 use Rattle.gmp_crc8.specs.Claims.{budget}
 use Rattle.gmp_settings.specs.declared.Settings.{Settings}
 use Rattle.refusals.specs.Table.{Answer, accepted, refused}
@@ -22,7 +22,7 @@ use Rattle.gmp_standing.specs.Known.{inWindow}
 use Rattle.gmp_control.specs.Word.{equalIndicators}
 use Rattle.gmp_control.specs.Pattern.{tableOf}
 use Rattle.gmp_control.specs.Announce.{announced}
-use Rattle.gmp_control.specs.Follow.{usable, tracked, candidate, paired, reading, foundBy}
+use Rattle.gmp_control.specs.Follow.{usable, tracked, candidate, paired, reached, foundBy}
 use Rattle.gmp_places.specs.Places.{places, placed, tabulate, chosen}
 use Rattle.gmp_frame.specs.Frame.{row, frame, columns, payload, clientBytes, controlOf, psiOf}
 use Rattle.gmp_source.specs.declared.SourceState.{SourceState}
@@ -36,12 +36,12 @@ use Rattle.claim_recovery.specs.Runs.{Nth, SourceCall, SinkCall, SourceStep, Si
 use Rattle.claim_recovery.specs.Tallied.{talliesEnd}
 use Rattle.claim_recovery.specs.Demand.{SourceRun, Reads, Unharmed, AtMostWrong, equalFrame, NoFalseCount}
 use Rattle.claim_worked.specs.Less.{HoldsAfter, DeliversAfter, NoLess}
-use Rattle.claim_worked.specs.Run.{small, source, calls, send, room, frame1, frame2, hear, fromFirst, lost, fromAny, noisy, WorkedRun}
+use Rattle.claim_worked.specs.Run.{small, source, calls, send, room, frame1, frame2, lend, fromFirst, lost, fromAny, noisy, WorkedRun}
 use Rattle.claim_worked.proofs.Build.{all-nth, reads-by}
 use Rattle.claim_worked.proofs.Two.{not-after-two}
 
 run : SourceRun small source calls
-unfolding sourceSteps sinkSteps sinkEnd sourceRefusal sourceState sourceFrame newSource startRefusal written controlBytes announced frame row tabulate placed places remainder divide reduce bits outside sinkRefusal sinkAnswer sinkState sinkHanded sinkOut released gateOpen typesAfter judged handed standingAfter stateAfter controlOf foundBy reading inWindow usable tracked candidate paired equalIndicators passes readAs clientBytes chosen payload columns word differing xor tableOf psiOf wrongBits
+unfolding sourceSteps sinkSteps sinkEnd sourceRefusal sourceState sourceFrame newSource startRefusal written controlBytes announced frame row tabulate placed places remainder divide reduce bits outside sinkRefusal sinkAnswer sinkState sinkHanded sinkOut released gateOpen typesAfter judged handed standingAfter stateAfter controlOf foundBy reached inWindow usable tracked candidate paired equalIndicators passes checkedWord clientBytes chosen payload columns word differing xor tableOf psiOf wrongBits
 run =
     record {
       made-with = small;
@@ -52,7 +52,7 @@ run =
     }
 
 pub worked-run : WorkedRun
-unfolding sourceSteps sinkSteps sinkEnd sourceRefusal sourceState sourceFrame newSource startRefusal written controlBytes announced frame row tabulate placed places remainder divide reduce bits outside sinkRefusal sinkAnswer sinkState sinkHanded sinkOut released gateOpen typesAfter judged handed standingAfter stateAfter controlOf foundBy reading inWindow usable tracked candidate paired equalIndicators passes readAs clientBytes chosen payload columns word differing xor tableOf talliesEnd talliesAfter counted added sumTo totalOf psiOf wrongBits
+unfolding sourceSteps sinkSteps sinkEnd sourceRefusal sourceState sourceFrame newSource startRefusal written controlBytes announced frame row tabulate placed places remainder divide reduce bits outside sinkRefusal sinkAnswer sinkState sinkHanded sinkOut released gateOpen typesAfter judged handed standingAfter stateAfter controlOf foundBy reached inWindow usable tracked candidate paired equalIndicators passes checkedWord clientBytes chosen payload columns word differing xor tableOf talliesEnd talliesAfter counted added sumTo totalOf psiOf wrongBits
 worked-run =
     record {
       source-run = run;
@@ -76,14 +76,14 @@ worked-run =
 
 -- After one frame the new sink waits.
 abbrev one : List SinkCall
-one = hear small frame1 tt room ∷ []
+one = lend small frame1 tt room ∷ []
 
 reads-one : Reads small (sourceSteps source calls) Unharmed 1 1 newSink one
-unfolding sourceSteps sinkSteps sinkEnd sourceRefusal sourceState sourceFrame newSource startRefusal written controlBytes announced frame row tabulate placed places remainder divide reduce bits outside sinkRefusal sinkAnswer sinkState sinkHanded sinkOut released gateOpen typesAfter judged handed standingAfter stateAfter controlOf foundBy reading inWindow usable tracked candidate paired equalIndicators passes readAs clientBytes chosen payload columns word differing xor tableOf psiOf wrongBits
+unfolding sourceSteps sinkSteps sinkEnd sourceRefusal sourceState sourceFrame newSource startRefusal written controlBytes announced frame row tabulate placed places remainder divide reduce bits outside sinkRefusal sinkAnswer sinkState sinkHanded sinkOut released gateOpen typesAfter judged handed standingAfter stateAfter controlOf foundBy reached inWindow usable tracked candidate paired equalIndicators passes checkedWord clientBytes chosen payload columns word differing xor tableOf psiOf wrongBits
 reads-one = reads-by small (sourceSteps source calls) Unharmed 1 1 newSink one (lit≤ tt) (refl, tt) (refl, tt) refl
 
 waits : (n : ℕ) → sinkEnd newSink one .count ≡ Known n → ⊥
-unfolding sourceSteps sinkSteps sinkEnd sourceRefusal sourceState sourceFrame newSource startRefusal written controlBytes announced frame row tabulate placed places remainder divide reduce bits outside sinkRefusal sinkAnswer sinkState sinkHanded sinkOut released gateOpen typesAfter judged handed standingAfter stateAfter controlOf foundBy reading inWindow usable tracked candidate paired equalIndicators passes readAs clientBytes chosen payload columns word differing xor tableOf psiOf wrongBits
+unfolding sourceSteps sinkSteps sinkEnd sourceRefusal sourceState sourceFrame newSource startRefusal written controlBytes announced frame row tabulate placed places remainder divide reduce bits outside sinkRefusal sinkAnswer sinkState sinkHanded sinkOut released gateOpen typesAfter judged handed standingAfter stateAfter controlOf foundBy reached inWindow usable tracked candidate paired equalIndicators passes checkedWord clientBytes chosen payload columns word differing xor tableOf psiOf wrongBits
 waits n e = let z : _≡_ {A = ℕ} 0 1 = cc in omega arith
 
 not-after-one : HoldsAfter 0 → ⊥
@@ -91,14 +91,14 @@ not-after-one h = let w = h small source calls run 1 1 (lit≤ tt) one reads-one
 
 -- The second frame is answered PAIRED.
 abbrev two : List SinkCall
-two = hear small frame1 tt room ∷ hear small frame2 tt room ∷ []
+two = lend small frame1 tt room ∷ lend small frame2 tt room ∷ []
 
 reads-two : Reads small (sourceSteps source calls) Unharmed 1 2 newSink two
-unfolding sourceSteps sinkSteps sinkEnd sourceRefusal sourceState sourceFrame newSource startRefusal written controlBytes announced frame row tabulate placed places remainder divide reduce bits outside sinkRefusal sinkAnswer sinkState sinkHanded sinkOut released gateOpen typesAfter judged handed standingAfter stateAfter controlOf foundBy reading inWindow usable tracked candidate paired equalIndicators passes readAs clientBytes chosen payload columns word differing xor tableOf psiOf wrongBits
+unfolding sourceSteps sinkSteps sinkEnd sourceRefusal sourceState sourceFrame newSource startRefusal written controlBytes announced frame row tabulate placed places remainder divide reduce bits outside sinkRefusal sinkAnswer sinkState sinkHanded sinkOut released gateOpen typesAfter judged handed standingAfter stateAfter controlOf foundBy reached inWindow usable tracked candidate paired equalIndicators passes checkedWord clientBytes chosen payload columns word differing xor tableOf psiOf wrongBits
 reads-two = reads-by small (sourceSteps source calls) Unharmed 1 2 newSink two (lit≤ tt) (refl, (refl, tt)) (refl, (refl, tt)) refl
 
 pairs : (y : SinkStep) → Nth (sinkSteps newSink two) 2 y → answerOf y ≡ accepted (finding PAIRED (Known 6))
-unfolding sourceSteps sinkSteps sinkEnd sourceRefusal sourceState sourceFrame newSource startRefusal written controlBytes announced frame row tabulate placed places remainder divide reduce bits outside sinkRefusal sinkAnswer sinkState sinkHanded sinkOut released gateOpen typesAfter judged handed standingAfter stateAfter controlOf foundBy reading inWindow usable tracked candidate paired equalIndicators passes readAs clientBytes chosen payload columns word differing xor tableOf psiOf wrongBits
+unfolding sourceSteps sinkSteps sinkEnd sourceRefusal sourceState sourceFrame newSource startRefusal written controlBytes announced frame row tabulate placed places remainder divide reduce bits outside sinkRefusal sinkAnswer sinkState sinkHanded sinkOut released gateOpen typesAfter judged handed standingAfter stateAfter controlOf foundBy reached inWindow usable tracked candidate paired equalIndicators passes checkedWord clientBytes chosen payload columns word differing xor tableOf psiOf wrongBits
 pairs y e = ap answerOf (sym e) ∙ refl
 
 -- the names begin with different letters
@@ -130,11 +130,11 @@ abbrev harmed : ℕ → List ℕ
 harmed jc3 = 0 ∷ 0 ∷ 0 ∷ 0 ∷ 0 ∷ 16 ∷ 0 ∷ 0 ∷ 0 ∷ jc3 ∷ 0 ∷ 0 ∷ 0 ∷ 0 ∷ 0 ∷ 0 ∷ []
 
 abbrev deceived : Bool → List SinkCall
-deceived true = hear (with-flag true) (harmed 0xC0) tt room ∷ []
-deceived false = hear (with-flag false) (harmed 0xD0) tt room ∷ []
+deceived true = lend (with-flag true) (harmed 0xC0) tt room ∷ []
+deceived false = lend (with-flag false) (harmed 0xD0) tt room ∷ []
 
 quiet-run : (mending : Bool) → SourceRun (with-flag mending) quiet (silence mending)
-unfolding sourceSteps sinkSteps sinkEnd sourceRefusal sourceState sourceFrame newSource startRefusal written controlBytes announced frame row tabulate placed places remainder divide reduce bits outside sinkRefusal sinkAnswer sinkState sinkHanded sinkOut released gateOpen typesAfter judged handed standingAfter stateAfter controlOf foundBy reading inWindow usable tracked candidate paired equalIndicators passes readAs mended wrongBit firstWith oneBit syndrome clientBytes chosen payload columns word differing xor tableOf psiOf bitIn flipped wrongBits
+unfolding sourceSteps sinkSteps sinkEnd sourceRefusal sourceState sourceFrame newSource startRefusal written controlBytes announced frame row tabulate placed places remainder divide reduce bits outside sinkRefusal sinkAnswer sinkState sinkHanded sinkOut released gateOpen typesAfter judged handed standingAfter stateAfter controlOf foundBy reached inWindow usable tracked candidate paired equalIndicators passes checkedWord mended wrongBit firstWith oneBit syndrome clientBytes chosen payload columns word differing xor tableOf psiOf bitIn flipped wrongBits
 quiet-run mending =
     record {
       made-with = with-flag mending;
@@ -146,19 +146,19 @@ quiet-run mending =
 
 reads-harmed : (mending : Bool)
     → Reads (with-flag mending) (sourceSteps quiet (silence mending)) (AtMostWrong (budget mending + 1) (with-flag mending)) 1 1 newSink (deceived mending)
-unfolding sourceSteps sinkSteps sinkEnd sourceRefusal sourceState sourceFrame newSource startRefusal written controlBytes announced frame row tabulate placed places remainder divide reduce bits outside sinkRefusal sinkAnswer sinkState sinkHanded sinkOut released gateOpen typesAfter judged handed standingAfter stateAfter controlOf foundBy reading inWindow usable tracked candidate paired equalIndicators passes readAs mended wrongBit firstWith oneBit syndrome clientBytes chosen payload columns word differing xor tableOf psiOf bitIn flipped wrongBits
+unfolding sourceSteps sinkSteps sinkEnd sourceRefusal sourceState sourceFrame newSource startRefusal written controlBytes announced frame row tabulate placed places remainder divide reduce bits outside sinkRefusal sinkAnswer sinkState sinkHanded sinkOut released gateOpen typesAfter judged handed standingAfter stateAfter controlOf foundBy reached inWindow usable tracked candidate paired equalIndicators passes checkedWord mended wrongBit firstWith oneBit syndrome clientBytes chosen payload columns word differing xor tableOf psiOf bitIn flipped wrongBits
 reads-harmed true =
     reads-by (with-flag true) (sourceSteps quiet (silence true)) (AtMostWrong (budget true + 1) (with-flag true)) 1 1 newSink (deceived true) (lit≤ tt) (refl, tt) (lit≤ tt, tt) refl
 reads-harmed false =
     reads-by (with-flag false) (sourceSteps quiet (silence false)) (AtMostWrong (budget false + 1) (with-flag false)) 1 1 newSink (deceived false) (lit≤ tt) (refl, tt) (lit≤ tt, tt) refl
 
 false-count : (mending : Bool) → sinkEnd newSink (deceived mending) .count ≡ Known 4
-unfolding sourceSteps sinkSteps sinkEnd sourceRefusal sourceState sourceFrame newSource startRefusal written controlBytes announced frame row tabulate placed places remainder divide reduce bits outside sinkRefusal sinkAnswer sinkState sinkHanded sinkOut released gateOpen typesAfter judged handed standingAfter stateAfter controlOf foundBy reading inWindow usable tracked candidate paired equalIndicators passes readAs mended wrongBit firstWith oneBit syndrome clientBytes chosen payload columns word differing xor tableOf psiOf bitIn flipped wrongBits
+unfolding sourceSteps sinkSteps sinkEnd sourceRefusal sourceState sourceFrame newSource startRefusal written controlBytes announced frame row tabulate placed places remainder divide reduce bits outside sinkRefusal sinkAnswer sinkState sinkHanded sinkOut released gateOpen typesAfter judged handed standingAfter stateAfter controlOf foundBy reached inWindow usable tracked candidate paired equalIndicators passes checkedWord mended wrongBit firstWith oneBit syndrome clientBytes chosen payload columns word differing xor tableOf psiOf bitIn flipped wrongBits
 false-count true = refl
 false-count false = refl
 
 count-zero : (mending : Bool) (x : SourceStep) → Nth (sourceSteps quiet (silence mending)) 1 x → countOf x ≡ 0
-unfolding sourceSteps sinkSteps sinkEnd sourceRefusal sourceState sourceFrame newSource startRefusal written controlBytes announced frame row tabulate placed places remainder divide reduce bits outside sinkRefusal sinkAnswer sinkState sinkHanded sinkOut released gateOpen typesAfter judged handed standingAfter stateAfter controlOf foundBy reading inWindow usable tracked candidate paired equalIndicators passes readAs mended wrongBit firstWith oneBit syndrome clientBytes chosen payload columns word differing xor tableOf psiOf bitIn flipped wrongBits
+unfolding sourceSteps sinkSteps sinkEnd sourceRefusal sourceState sourceFrame newSource startRefusal written controlBytes announced frame row tabulate placed places remainder divide reduce bits outside sinkRefusal sinkAnswer sinkState sinkHanded sinkOut released gateOpen typesAfter judged handed standingAfter stateAfter controlOf foundBy reached inWindow usable tracked candidate paired equalIndicators passes checkedWord mended wrongBit firstWith oneBit syndrome clientBytes chosen payload columns word differing xor tableOf psiOf bitIn flipped wrongBits
 count-zero mending x e = ap countOf (sym e)
 
 not-with-more : (mending : Bool) → NoFalseCount mending (budget mending + 1) → ⊥

@@ -34,7 +34,7 @@ use Rattle.claim_worked.specs.Less.{TypedAfter}
 use Rattle.claim_worked.specs.Run.{send}
 use Rattle.claim_worked.specs.Typed.{checks}
 use Rattle.claim_worked.proofs.Build.{All, all-nth, reads-by}
-use Rattle.claim_worked.proofs.Reading.{FramesBytes, reader, all-taken}
+use Rattle.claim_worked.proofs.Readable.{FramesBytes, reader, all-taken}
 
 abbrev steady : ℕ → SourceState
 steady a = record { count = 1; multiframe = a; «payload_type» = 7 }

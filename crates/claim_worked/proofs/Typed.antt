@@ -4,12 +4,12 @@ use mathlib.Core.Bool.{xor}
 use Rattle.math.specs.Bits.{bits, differing}
 use Rattle.gmp_crc8.specs.Division.{reduce, divide}
 use Rattle.gmp_crc8.specs.Check.{remainder, passes, word, wrongBits}
-use Rattle.gmp_crc8.specs.Reading.{readAs}
+use Rattle.gmp_crc8.specs.Checked.{checkedWord}
 use Rattle.gmp_settings.specs.Settings.{outside}
 use Rattle.gmp_standing.specs.Known.{inWindow}
 use Rattle.gmp_control.specs.Word.{equalIndicators}
 use Rattle.gmp_control.specs.Pattern.{tableOf}
-use Rattle.gmp_control.specs.Follow.{usable, tracked, candidate, paired, reading, foundBy}
+use Rattle.gmp_control.specs.Follow.{usable, tracked, candidate, paired, reached, foundBy}
 use Rattle.gmp_places.specs.Places.{places, chosen}
 use Rattle.gmp_frame.specs.Frame.{columns, payload, clientBytes, controlOf, psiOf}
 use Rattle.gmp_payload_type.specs.Types.{judged, typesAfter, gateOpen}
@@ -19,7 +19,7 @@ use Rattle.claim_recovery.specs.Tallied.{bytesOf}
 use Rattle.claim_worked.specs.Typed.{TypedRun}
 
 pub typed-run : TypedRun
-unfolding sinkSteps sinkEnd remainder divide reduce bits outside sinkRefusal sinkAnswer sinkState sinkHanded sinkOut released gateOpen typesAfter judged handed standingAfter stateAfter controlOf foundBy reading inWindow usable tracked candidate paired equalIndicators passes readAs clientBytes chosen payload columns places word differing xor tableOf bytesOf psiOf wrongBits
+unfolding sinkSteps sinkEnd remainder divide reduce bits outside sinkRefusal sinkAnswer sinkState sinkHanded sinkOut released gateOpen typesAfter judged handed standingAfter stateAfter controlOf foundBy reached inWindow usable tracked candidate paired equalIndicators passes checkedWord clientBytes chosen payload columns places word differing xor tableOf bytesOf psiOf wrongBits
 typed-run =
     record {
       right-answers = refl;

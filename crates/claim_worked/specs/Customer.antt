@@ -20,14 +20,14 @@ use Rattle.gmp_sink.specs.declared.SinkState.{SinkState}
 use Rattle.gmp_sink.specs.Sink.{newSink, sinkRefusal}
 use Rattle.claim_recovery.specs.Runs.{SourceCall, SinkCall, sourceSteps, sinkSteps, sinkEnd}
 use Rattle.claim_recovery.specs.Demand.{SourceRun, Reads, Unharmed, AtMostWrong}
-use Rattle.claim_worked.specs.Run.{small, room, send, hear, frames, answers, says, silent}
+use Rattle.claim_worked.specs.Run.{small, room, send, lend, frames, answers, says, saysNone}
 
 -- the settings of all, and others that number 14 turns back: one bit of −2 is turned over
 abbrev pub theirs : Settings
 theirs = withPatterns small customer
 
-abbrev pub crooked : Settings
-crooked = withPatterns small oneBitWrong
+abbrev pub ruleBroken : Settings
+ruleBroken = withPatterns small oneBitWrong
 
 -- A source of count 4: +2, -1, refused (patterns), -2, +1, 0, and to 0.
 abbrev pub begun : SourceState
@@ -37,7 +37,7 @@ abbrev pub sendings : List SourceCall
 sendings =
     send theirs 6 (11 ∷ 12 ∷ 13 ∷ 14 ∷ [])
     ∷ send theirs 5 (21 ∷ 22 ∷ 23 ∷ 24 ∷ 25 ∷ 26 ∷ [])
-    ∷ send crooked 3 (31 ∷ 32 ∷ 33 ∷ 34 ∷ 35 ∷ [])
+    ∷ send ruleBroken 3 (31 ∷ 32 ∷ 33 ∷ 34 ∷ 35 ∷ [])
     ∷ send theirs 3 (31 ∷ 32 ∷ 33 ∷ 34 ∷ 35 ∷ [])
     ∷ send theirs 4 (41 ∷ 42 ∷ 43 ∷ [])
     ∷ send theirs 4 (51 ∷ 52 ∷ 53 ∷ 54 ∷ [])
@@ -66,13 +66,13 @@ sent6 = 0 ∷ 0 ∷ 0 ∷ 61 ∷ 0 ∷ 3 ∷ 0 ∷ 62 ∷ 0 ∷ 23 ∷ 0 ∷ 63 
 -- A new sink from frame 1 to 6, with a call that number 14 turns back.
 abbrev pub theirNew : List SinkCall
 theirNew =
-    hear theirs sent1 tt room
-    ∷ hear crooked sent2 tt room
-    ∷ hear theirs sent2 tt room
-    ∷ hear theirs sent3 tt room
-    ∷ hear theirs sent4 tt room
-    ∷ hear theirs sent5 tt room
-    ∷ hear theirs sent6 tt room
+    lend theirs sent1 tt room
+    ∷ lend ruleBroken sent2 tt room
+    ∷ lend theirs sent2 tt room
+    ∷ lend theirs sent3 tt room
+    ∷ lend theirs sent4 tt room
+    ∷ lend theirs sent5 tt room
+    ∷ lend theirs sent6 tt room
     ∷ []
 
 -- A sink with a false count and a false word from frame 2 to 6.
@@ -81,12 +81,12 @@ theirLost = record { count = Known 7; word = Word 21845; types = newTypes }
 
 abbrev pub theirAny : List SinkCall
 theirAny =
-    hear theirs sent2 tt room
-    ∷ hear theirs sent3 tt room
-    ∷ hear crooked sent4 tt room
-    ∷ hear theirs sent4 tt room
-    ∷ hear theirs sent5 tt room
-    ∷ hear theirs sent6 tt room
+    lend theirs sent2 tt room
+    ∷ lend theirs sent3 tt room
+    ∷ lend ruleBroken sent4 tt room
+    ∷ lend theirs sent4 tt room
+    ∷ lend theirs sent5 tt room
+    ∷ lend theirs sent6 tt room
     ∷ []
 
 -- A hit: frame 3 with one wrong bit in each control byte, and frame 5 with nothing whole but its
@@ -99,32 +99,32 @@ struck5 = 255 ∷ 0 ∷ 255 ∷ 255 ∷ 255 ∷ 16 ∷ 255 ∷ 255 ∷ 255 ∷ 2
 
 abbrev pub theirNoisy : List SinkCall
 theirNoisy =
-    hear theirs sent2 tt room
-    ∷ hear theirs struck3 tt room
-    ∷ hear crooked sent3 tt room
-    ∷ hear theirs sent4 tt room
-    ∷ hear theirs struck5 tt room
+    lend theirs sent2 tt room
+    ∷ lend theirs struck3 tt room
+    ∷ lend ruleBroken sent3 tt room
+    ∷ lend theirs sent4 tt room
+    ∷ lend theirs struck5 tt room
     ∷ []
 
 -- A new sink with 01's patterns, from frame 1 to 4.
 abbrev pub ours : List SinkCall
-ours = hear small sent1 tt room ∷ hear small sent2 tt room ∷ hear small sent3 tt room ∷ hear small sent4 tt room ∷ []
+ours = lend small sent1 tt room ∷ lend small sent2 tt room ∷ lend small sent3 tt room ∷ lend small sent4 tt room ∷ []
 
 -- The hypotheses of demand 3 hold of these runs, and they go so.
 pub record CustomerRun : Type 0 where
   pub source-run : SourceRun theirs begun sendings
   pub written : frames (sourceSteps begun sendings) ≡ sent1 ∷ sent2 ∷ sent3 ∷ sent4 ∷ sent5 ∷ sent6 ∷ []
   pub new-reads : Reads theirs (sourceSteps begun sendings) Unharmed 1 6 newSink theirNew
-  pub new-answers : answers (sinkSteps newSink theirNew) ≡ silent WAITING ∷ says PAIRED 5 ∷ says TRACKED 3 ∷ says TRACKED 4 ∷ says READ 4 ∷ says READ 0 ∷ []
+  pub new-answers : answers (sinkSteps newSink theirNew) ≡ saysNone WAITING ∷ says PAIRED 5 ∷ says TRACKED 3 ∷ says TRACKED 4 ∷ says READ 4 ∷ says READ 0 ∷ []
   pub new-holds : sinkEnd newSink theirNew .count ≡ Known 0
   pub lost-reads : Reads theirs (sourceSteps begun sendings) Unharmed 2 6 theirLost theirAny
-  pub lost-answers : answers (sinkSteps theirLost theirAny) ≡ silent WAITING ∷ says PAIRED 3 ∷ says TRACKED 4 ∷ says READ 4 ∷ says READ 0 ∷ []
+  pub lost-answers : answers (sinkSteps theirLost theirAny) ≡ saysNone WAITING ∷ says PAIRED 3 ∷ says TRACKED 4 ∷ says READ 4 ∷ says READ 0 ∷ []
   pub lost-holds : sinkEnd theirLost theirAny .count ≡ Known 0
   pub noisy-reads : Reads theirs (sourceSteps begun sendings) (AtMostWrong (budget false) theirs) 2 5 newSink theirNoisy
-  pub noisy-answers : answers (sinkSteps newSink theirNoisy) ≡ silent WAITING ∷ silent BADCHECK ∷ silent WAITING ∷ says READ 4 ∷ []
+  pub noisy-answers : answers (sinkSteps newSink theirNoisy) ≡ saysNone WAITING ∷ saysNone BADCHECK ∷ saysNone WAITING ∷ says READ 4 ∷ []
   pub noisy-holds : sinkEnd newSink theirNoisy .count ≡ Known 4
-  pub ours-answers : answers (sinkSteps newSink ours) ≡ silent WAITING ∷ silent WAITING ∷ silent WAITING ∷ silent WAITING ∷ []
+  pub ours-answers : answers (sinkSteps newSink ours) ≡ saysNone WAITING ∷ saysNone WAITING ∷ saysNone WAITING ∷ saysNone WAITING ∷ []
   -- the numbers by which the calls with the crooked patterns are turned back, and by which they
   -- would be with 7 bytes of output, on port 0, and with both
-  pub source-told : sourceRefusal crooked (nextState (nextState begun 6) 5) 3 5 16 ≡ 14
-  pub sink-told : (sinkRefusal crooked 16 16 1 ≡ 14) × (sinkRefusal crooked 16 7 1 ≡ 9) × (sinkRefusal crooked 16 16 0 ≡ 10) × (sinkRefusal crooked 16 7 0 ≡ 9)
+  pub source-told : sourceRefusal ruleBroken (nextState (nextState begun 6) 5) 3 5 16 ≡ 14
+  pub sink-told : (sinkRefusal ruleBroken 16 16 1 ≡ 14) × (sinkRefusal ruleBroken 16 7 1 ≡ 9) × (sinkRefusal ruleBroken 16 16 0 ≡ 10) × (sinkRefusal ruleBroken 16 7 0 ≡ 9)

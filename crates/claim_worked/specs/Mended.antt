@@ -19,7 +19,7 @@ use Rattle.claim_recovery.specs.Runs.{SourceCall, SinkCall, SinkStep, sourceSte
 use Rattle.claim_recovery.specs.Demand.{SourceRun, Reads, AtMostWrong}
 use Rattle.claim_recovery.specs.Mended.{OneWrong, Held, flaggedCall}
 use Rattle.claim_recovery.specs.Tallied.{badFramesOf}
-use Rattle.claim_worked.specs.Run.{small, wrong, room, source, calls, frame1, frame2, frame3, frame4, frame5, frame6, hear, frames, answers, says, silent}
+use Rattle.claim_worked.specs.Run.{small, wrong, room, source, calls, frame1, frame2, frame3, frame4, frame5, frame6, lend, frames, answers, says, saysNone}
 
 -- the settings of all, and the calls of Run.antt's source with them
 abbrev pub mends : Settings
@@ -45,13 +45,13 @@ bits4 = 0 ∷ 25 ∷ 0 ∷ 41 ∷ 0 ∷ 140 ∷ 0 ∷ 42 ∷ 0 ∷ 80 ∷ 43 ∷
 -- a sink with these settings reads frames 1 to 6, some with one wrong bit, with a refused call
 abbrev pub hearings : Settings → List SinkCall
 hearings s =
-    hear s frame1 tt room
-    ∷ hear s bit2 tt room
-    ∷ hear wrong bit2 tt room
-    ∷ hear s bit3 tt room
-    ∷ hear s frame4 tt room
-    ∷ hear s bit5 tt room
-    ∷ hear s frame6 tt room
+    lend s frame1 tt room
+    ∷ lend s bit2 tt room
+    ∷ lend wrong bit2 tt room
+    ∷ lend s bit3 tt room
+    ∷ lend s frame4 tt room
+    ∷ lend s bit5 tt room
+    ∷ lend s frame6 tt room
     ∷ []
 
 -- a sink in step with the source before frame 1
@@ -60,11 +60,11 @@ inStep = record { count = Known 3; word = Nothing; types = newTypes }
 
 -- the first two of them
 abbrev pub firstTwo : List SinkCall
-firstTwo = hear mends frame1 tt room ∷ hear mends bit2 tt room ∷ []
+firstTwo = lend mends frame1 tt room ∷ lend mends bit2 tt room ∷ []
 
 -- a sink reads frames 2 to 5, one of them with two wrong bits
 abbrev pub harder : List SinkCall
-harder = hear mends bit2 tt room ∷ hear mends bit3 tt room ∷ hear mends bits4 tt room ∷ hear mends bit5 tt room ∷ []
+harder = lend mends bit2 tt room ∷ lend mends bit3 tt room ∷ lend mends bits4 tt room ∷ lend mends bit5 tt room ∷ []
 
 -- which calls mended a bit
 abbrev pub mendings : List SinkStep → List Bool
@@ -78,7 +78,7 @@ pub record MendedRun : Type 0 where
   pub written : frames (sourceSteps source sendings) ≡ frame1 ∷ frame2 ∷ frame3 ∷ frame4 ∷ frame5 ∷ frame6 ∷ []
   -- with mending on the wrong bits cost nothing, and no frame counts as BADCHECK
   pub on-reads : Reads mends (sourceSteps source sendings) (OneWrong mends) 1 6 newSink (hearings mends)
-  pub on-answers : answers (sinkSteps newSink (hearings mends)) ≡ silent WAITING ∷ says PAIRED 6 ∷ says TRACKED 5 ∷ says TRACKED 3 ∷ says READ 3 ∷ says READ 7 ∷ []
+  pub on-answers : answers (sinkSteps newSink (hearings mends)) ≡ saysNone WAITING ∷ says PAIRED 6 ∷ says TRACKED 5 ∷ says TRACKED 3 ∷ says READ 3 ∷ says READ 7 ∷ []
   pub on-mended : mendings (sinkSteps newSink (hearings mends)) ≡ false ∷ true ∷ true ∷ false ∷ true ∷ false ∷ []
   pub on-bad : badFramesOf (sinkSteps newSink (hearings mends)) ≡ 0
   pub on-holds : sinkEnd newSink (hearings mends) .count ≡ Known 7
@@ -88,10 +88,10 @@ pub record MendedRun : Type 0 where
   pub step-holds : Held (sourceSteps source sendings) 1 inStep
   pub step-reads : Reads mends (sourceSteps source sendings) (OneWrong mends) 1 6 inStep (hearings mends)
   pub step-answers : answers (sinkSteps inStep (hearings mends)) ≡ says TRACKED 4 ∷ says TRACKED 6 ∷ says TRACKED 5 ∷ says TRACKED 3 ∷ says READ 3 ∷ says READ 7 ∷ []
-  pub off-answers : answers (sinkSteps inStep (hearings small)) ≡ says TRACKED 4 ∷ silent BADCHECK ∷ silent BADCHECK ∷ silent WAITING ∷ silent BADCHECK ∷ says READ 7 ∷ []
+  pub off-answers : answers (sinkSteps inStep (hearings small)) ≡ says TRACKED 4 ∷ saysNone BADCHECK ∷ saysNone BADCHECK ∷ saysNone WAITING ∷ saysNone BADCHECK ∷ says READ 7 ∷ []
   pub off-mended : mendings (sinkSteps inStep (hearings small)) ≡ false ∷ false ∷ false ∷ false ∷ false ∷ false ∷ []
   pub off-bad : badFramesOf (sinkSteps inStep (hearings small)) ≡ 3
   -- two wrong bits are not mended
   pub two-reads : Reads mends (sourceSteps source sendings) (AtMostWrong (budget true) mends) 2 5 newSink harder
-  pub two-answers : answers (sinkSteps newSink harder) ≡ silent WAITING ∷ says PAIRED 5 ∷ silent BADCHECK ∷ says READ 3 ∷ []
+  pub two-answers : answers (sinkSteps newSink harder) ≡ saysNone WAITING ∷ says PAIRED 5 ∷ saysNone BADCHECK ∷ says READ 3 ∷ []
   pub two-mended : mendings (sinkSteps newSink harder) ≡ true ∷ true ∷ false ∷ true ∷ []

@@ -84,26 +84,26 @@ abbrev pub untold : Expected
 untold = record { multiframe = 0; «payload_type» = 0 }
 
 -- a call of a sink on port p, and on port 1
-abbrev pub hearOn : ℕ → Settings → (f : List ℕ) → T (areBytes f) → List ℕ → SinkCall
-hearOn p s f h out = record { settings = s; expected = untold; frame = f; bytes = bytes f h; out = out; port = p }
+abbrev pub lendOn : ℕ → Settings → (f : List ℕ) → T (areBytes f) → List ℕ → SinkCall
+lendOn p s f h out = record { settings = s; expected = untold; frame = f; bytes = bytes f h; out = out; port = p }
 
-abbrev pub hear : Settings → (f : List ℕ) → T (areBytes f) → List ℕ → SinkCall
-hear = hearOn 1
+abbrev pub lend : Settings → (f : List ℕ) → T (areBytes f) → List ℕ → SinkCall
+lend = lendOn 1
 
 -- A new sink from frame 1 to 6, with refused calls: the grid, port 0, 7 bytes of output where hi is
 -- 8, and port 9.
 abbrev pub fromFirst : List SinkCall
 fromFirst =
-    hear small frame1 tt room
-    ∷ hear wrong frame1 tt room
-    ∷ hearOn 0 small frame1 tt room
-    ∷ hear small frame2 tt room
-    ∷ hear small frame1 tt (1 ∷ 2 ∷ 3 ∷ 4 ∷ 5 ∷ 6 ∷ 7 ∷ [])
-    ∷ hear small frame3 tt room
-    ∷ hear small frame4 tt room
-    ∷ hearOn 9 small frame5 tt room
-    ∷ hear small frame5 tt room
-    ∷ hear small frame6 tt room
+    lend small frame1 tt room
+    ∷ lend wrong frame1 tt room
+    ∷ lendOn 0 small frame1 tt room
+    ∷ lend small frame2 tt room
+    ∷ lend small frame1 tt (1 ∷ 2 ∷ 3 ∷ 4 ∷ 5 ∷ 6 ∷ 7 ∷ [])
+    ∷ lend small frame3 tt room
+    ∷ lend small frame4 tt room
+    ∷ lendOn 9 small frame5 tt room
+    ∷ lend small frame5 tt room
+    ∷ lend small frame6 tt room
     ∷ []
 
 -- A sink with a false count and a false word from frame 2 to 6, on port 5.
@@ -112,12 +112,12 @@ lost = record { count = Known 7; word = Word 21845; types = newTypes }
 
 abbrev pub fromAny : List SinkCall
 fromAny =
-    hearOn 5 small frame2 tt room
-    ∷ hearOn 5 small frame3 tt room
-    ∷ hearOn 5 small [] tt room
-    ∷ hearOn 5 small frame4 tt room
-    ∷ hearOn 5 small frame5 tt room
-    ∷ hearOn 5 small frame6 tt room
+    lendOn 5 small frame2 tt room
+    ∷ lendOn 5 small frame3 tt room
+    ∷ lendOn 5 small [] tt room
+    ∷ lendOn 5 small frame4 tt room
+    ∷ lendOn 5 small frame5 tt room
+    ∷ lendOn 5 small frame6 tt room
     ∷ []
 
 -- A hit: frame 3 with one wrong bit in each control byte, and frame 5 with nothing whole but its
@@ -131,11 +131,11 @@ hit5 = 255 ∷ 0 ∷ 255 ∷ 255 ∷ 255 ∷ 12 ∷ 255 ∷ 255 ∷ 255 ∷ 92 �
 -- A new sink from frame 2 to 5, over the hit, on port 8 and at last on port 3.
 abbrev pub noisy : List SinkCall
 noisy =
-    hearOn 8 small frame2 tt room
-    ∷ hearOn 8 small hit3 tt room
-    ∷ hearOn 8 wrong frame3 tt room
-    ∷ hearOn 8 small frame4 tt room
-    ∷ hearOn 3 small hit5 tt room
+    lendOn 8 small frame2 tt room
+    ∷ lendOn 8 small hit3 tt room
+    ∷ lendOn 8 wrong frame3 tt room
+    ∷ lendOn 8 small frame4 tt room
+    ∷ lendOn 3 small hit5 tt room
     ∷ []
 
 -- all calls of a sink from the state z, refused ones too, each with the state that it was given
@@ -171,21 +171,21 @@ answers (y ∷ ys) = answerOf y ∷ answers ys
 abbrev pub says : List ℕ → ℕ → Answer Finding
 says name n = accepted (finding name (Known n))
 
-abbrev pub silent : List ℕ → Answer Finding
-silent name = accepted (finding name Unknown)
+abbrev pub saysNone : List ℕ → Answer Finding
+saysNone name = accepted (finding name Unknown)
 
 -- The hypotheses of demand 3 hold of these runs, and they go so.
 pub record WorkedRun : Type 0 where
   pub source-run : SourceRun small source calls
   pub written : frames (sourceSteps source calls) ≡ frame1 ∷ frame2 ∷ frame3 ∷ frame4 ∷ frame5 ∷ frame6 ∷ []
   pub new-reads : Reads small (sourceSteps source calls) Unharmed 1 6 newSink fromFirst
-  pub new-answers : answers (sinkSteps newSink fromFirst) ≡ silent WAITING ∷ says PAIRED 6 ∷ says TRACKED 5 ∷ says TRACKED 3 ∷ says READ 3 ∷ says READ 7 ∷ []
+  pub new-answers : answers (sinkSteps newSink fromFirst) ≡ saysNone WAITING ∷ says PAIRED 6 ∷ says TRACKED 5 ∷ says TRACKED 3 ∷ says READ 3 ∷ says READ 7 ∷ []
   pub new-holds : sinkEnd newSink fromFirst .count ≡ Known 7
   pub lost-reads : Reads small (sourceSteps source calls) Unharmed 2 6 lost fromAny
-  pub lost-answers : answers (sinkSteps lost fromAny) ≡ silent WAITING ∷ says PAIRED 5 ∷ says TRACKED 3 ∷ says READ 3 ∷ says READ 7 ∷ []
+  pub lost-answers : answers (sinkSteps lost fromAny) ≡ saysNone WAITING ∷ says PAIRED 5 ∷ says TRACKED 3 ∷ says READ 3 ∷ says READ 7 ∷ []
   pub lost-holds : sinkEnd lost fromAny .count ≡ Known 7
   pub noisy-reads : Reads small (sourceSteps source calls) (AtMostWrong (budget false) small) 2 5 newSink noisy
-  pub noisy-answers : answers (sinkSteps newSink noisy) ≡ silent WAITING ∷ silent BADCHECK ∷ silent WAITING ∷ says READ 3 ∷ []
+  pub noisy-answers : answers (sinkSteps newSink noisy) ≡ saysNone WAITING ∷ saysNone BADCHECK ∷ saysNone WAITING ∷ says READ 3 ∷ []
   pub noisy-holds : sinkEnd newSink noisy .count ≡ Known 3
   -- each port has the frames, BADCHECK frames and bytes of its own accepted calls, and the total is
   -- their sum; that of full tallies exceeds 32 bits

@@ -55,8 +55,8 @@ abbrev pub narrow : Settings
 narrow = newSettings 3808 0 8
 
 -- a sink that knows a false count
-abbrev pub misled : SinkState
-misled = record { count = Known 2932; word = Nothing; types = newTypes }
+abbrev pub falseCount : SinkState
+falseCount = record { count = Known 2932; word = Nothing; types = newTypes }
 
 abbrev pub starred : List Case
 starred =
@@ -72,7 +72,7 @@ starred =
     ∷ standings (reads opu0 newSink (control 0x4B 0xB6 0x38 ∷ control 0x4B 0x8A 0x19 ∷ [])) (finding WAITING Unknown ∷ finding PAIRED (Known 14409) ∷ [])
     -- "Window 0 to 15232, known count 2932 (false), no word: 4B B6 38 is TRACKED to 2934; then 4B
     -- 8A 19 is PAIRED, 14409."
-    ∷ standings (reads wide misled (control 0x4B 0xB6 0x38 ∷ control 0x4B 0x8A 0x19 ∷ [])) (finding TRACKED (Known 2934) ∷ finding PAIRED (Known 14409) ∷ [])
+    ∷ standings (reads wide falseCount (control 0x4B 0xB6 0x38 ∷ control 0x4B 0x8A 0x19 ∷ [])) (finding TRACKED (Known 2934) ∷ finding PAIRED (Known 14409) ∷ [])
     -- "00 00 00 passes the check: OPU0 says OUTSIDE; window 0 to 8 says READ, 0. FF FF FF:
     -- BADCHECK."
     ∷ standings (reads opu0 newSink (control 0x00 0x00 0x00 ∷ [])) (finding OUTSIDE Unknown ∷ [])

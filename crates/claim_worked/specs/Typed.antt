@@ -19,7 +19,7 @@ use Rattle.gmp_sink.specs.Sink.{newSink}
 use Rattle.claim_recovery.specs.Runs.{SinkCall, SinkStep, sinkSteps, sinkEnd, handedOf, outOf}
 use Rattle.claim_recovery.specs.Tallied.{bytesOf}
 use Rattle.claim_recovery.proofs.Bytes.{areBytes, bytes}
-use Rattle.claim_worked.specs.Run.{small, wrong, room, answers, says, silent}
+use Rattle.claim_worked.specs.Run.{small, wrong, room, answers, says, saysNone}
 
 -- the worked settings with the type check on
 abbrev pub checks : Settings
@@ -101,7 +101,7 @@ pub record TypedRun : Type 0 where
   pub right-buffers : buffers (sinkSteps newSink (rightCord checks)) ≡ room ∷ room ∷ room ∷ room ∷ (load ++ drop 3 room) ∷ []
   pub right-types : sinkEnd newSink (rightCord checks) .types ≡ record { accepted = PayloadType 7; seen = Twice 7 }
   -- the two that came before the hit count
-  pub hit-answers : answers (sinkSteps newSink hitBetween) ≡ says READ 3 ∷ says READ 3 ∷ silent BADCHECK ∷ says READ 3 ∷ says READ 3 ∷ []
+  pub hit-answers : answers (sinkSteps newSink hitBetween) ≡ says READ 3 ∷ says READ 3 ∷ saysNone BADCHECK ∷ says READ 3 ∷ says READ 3 ∷ []
   pub hit-handed : handedAll (sinkSteps newSink hitBetween) ≡ [] ∷ [] ∷ [] ∷ [] ∷ load ∷ []
   -- of another client's frames nothing is handed out, and nothing is tallied as handed out
   pub swapped-answers : answers (sinkSteps newSink (swappedCord checks)) ≡ says READ 3 ∷ says READ 3 ∷ says READ 3 ∷ says READ 3 ∷ []
@@ -109,7 +109,7 @@ pub record TypedRun : Type 0 where
   pub swapped-bytes : bytesOf (sinkSteps newSink (swappedCord checks)) ≡ 0
   pub swapped-types : sinkEnd newSink (swappedCord checks) .types .accepted ≡ PayloadType 5
   -- in service the accepted type stands until the third frame of the other type
-  pub service-answers : answers (sinkSteps inService swappedThen) ≡ silent BADCHECK ∷ says READ 3 ∷ says READ 3 ∷ says READ 3 ∷ says READ 3 ∷ []
+  pub service-answers : answers (sinkSteps inService swappedThen) ≡ saysNone BADCHECK ∷ says READ 3 ∷ says READ 3 ∷ says READ 3 ∷ says READ 3 ∷ []
   pub service-handed : handedAll (sinkSteps inService swappedThen) ≡ load ∷ [] ∷ load ∷ load ∷ [] ∷ []
   pub service-types : sinkEnd inService swappedThen .types ≡ record { accepted = PayloadType 5; seen = Twice 5 }
   pub broken-types : sinkEnd newSink broken .types ≡ record { accepted = NoType; seen = Once 7 }

@@ -18,12 +18,12 @@ use Rattle.gmp_control.specs.declared.Remembered.the-variants.{Word, Not
 use Rattle.gmp_control.specs.Word.{modulus, wordOf, countBits, equalIndicators, wordBytes, wordBy}
 use Rattle.gmp_control.specs.Pattern.{Table, Rule}
 use Rattle.gmp_control.specs.Announce.{announced}
-use Rattle.gmp_control.specs.Follow.{usable, tracked, fromCount, fromWord, orElse, reading, windowedBy, windowed, foundBy}
+use Rattle.gmp_control.specs.Follow.{usable, tracked, fromCount, fromWord, orElse, reached, windowedBy, windowed, foundBy}
 use Rattle.gmp_control.specs.Claims.{ContinuesOne, TablesServe}
 use Rattle.gmp_control.proofs.Tables.{standard-rule}
 use Rattle.gmp_control.proofs.Pairing.{one-continued}
 use Rattle.gmp_control.proofs.Announced.{Plain, Changes, Announces, announced-says, announced-lt}
-use Rattle.gmp_control.proofs.Reading.{NoneOr, orElse-keeps, reading-plain, count-usable, PossibleOf, from-true, true-reading, any-reading, word-true, second-reading}
+use Rattle.gmp_control.proofs.Reached.{NoneOr, orElse-keeps, reached-plain, count-usable, PossibleOf, from-true, reached-true, reached-any, word-true, second-reading}
 
 -- the two bytes of a source's word give the word back
 pub word-back : (t : Table) (old next : ℕ) → let b = wordBytes (announced t old next) in wordBy (b .jc1) (b .jc2) ≡ announced t old next
@@ -66,9 +66,9 @@ windowed-count s f = go (f .count) refl
     go Unknown e = e
 
 found-count : (t : Table) (s : Settings) (c : Count) (r : Remembered) (w : ℕ)
-    → foundBy t s c r w .count ≡ inWindow s (reading t (inWindow s c) (usable r) w .count)
+    → foundBy t s c r w .count ≡ inWindow s (reached t (inWindow s c) (usable r) w .count)
 unfolding foundBy
-found-count t s c r w = windowed-count s (reading t (inWindow s c) (usable r) w)
+found-count t s c r w = windowed-count s (reached t (inWindow s c) (usable r) w)
 
 usable-word : (w : ℕ) → equalIndicators w ≡ false → usable (Word w) ≡ Word w
 unfolding usable
@@ -103,14 +103,14 @@ module _ (t : Table) (rule : Rule t) (s : Settings) (fit : Fit s) where
   unfolding foundBy
   follows-true-count old next r ho hn =
       ap (windowed s)
-      (ap (λ (c : Count). reading t c (usable r) (announced t old next)) (in-window-known s old ho)
-      ∙ true-reading t rule old next (announced t old next) (usable r) (says old next ho hn))
+      (ap (λ (c : Count). reached t c (usable r) (announced t old next)) (in-window-known s old ho)
+      ∙ reached-true t rule old next (announced t old next) (usable r) (says old next ho hn))
       ∙ rw hn
 
   plain-found : (next w : ℕ) (c : Count) (r : Remembered) → outside s next ≡ false → Plain next w → foundBy t s c r w .count ≡ Known next
   plain-found next w c r hn p =
       found-count t s c r w
-      ∙ ap (λ (f : Finding). inWindow s (f .count)) (reading-plain t (inWindow s c) (usable r) w (p .equal))
+      ∙ ap (λ (f : Finding). inWindow s (f .count)) (reached-plain t (inWindow s c) (usable r) w (p .equal))
       ∙ ap (λ (n : ℕ). inWindow s (Known n)) (p .count) ∙ in-window-known s next hn
 
   recover-by : (old mid next v w : ℕ) (c : Count) (r : Remembered) → outside s mid ≡ false → outside s next ≡ false
@@ -118,19 +118,19 @@ module _ (t : Table) (rule : Rule t) (s : Settings) (fit : Fit s) where
   recover-by old mid next v w c r hm hn g (inl q) = plain-found next w (foundBy t s c r v .count) (usable (Word v)) hn q
   recover-by old mid next v w c r hm hn (inl p) (inr h) =
       found-count t s (foundBy t s c r v .count) (usable (Word v)) w
-      ∙ ap (λ (x : Count). inWindow s (reading t x (usable (usable (Word v))) w .count))
+      ∙ ap (λ (x : Count). inWindow s (reached t x (usable (usable (Word v))) w .count))
       (ap (inWindow s) (plain-found mid v c r hm p) ∙ in-window-known s mid hm)
-      ∙ ap (λ (f : Finding). inWindow s (f .count)) (true-reading t rule mid next w (usable (usable (Word v))) (inr h))
+      ∙ ap (λ (f : Finding). inWindow s (f .count)) (reached-true t rule mid next w (usable (usable (Word v))) (inr h))
       ∙ in-window-known s next hn
   recover-by old mid next v w c r hm hn (inr g) (inr h) =
       found-count t s (foundBy t s c r v .count) (usable (Word v)) w
-      ∙ ap (λ (x : Remembered). inWindow s (reading t (inWindow s (foundBy t s c r v .count)) x w .count))
+      ∙ ap (λ (x : Remembered). inWindow s (reached t (inWindow s (foundBy t s c r v .count)) x w .count))
       (ap usable (usable-word v (g .unequal)) ∙ usable-word v (g .unequal))
       ∙ ap (inWindow s)
       (second-reading t rule old mid next v w g h (inWindow s (foundBy t s c r v .count))
       (in-window-keeps (PossibleOf t v) s (foundBy t s c r v .count)
       (subst⁻¹ (NoneOr (PossibleOf t v)) (found-count t s c r v)
-      (in-window-keeps (PossibleOf t v) s _ (any-reading t rule (inWindow s c) (usable r) v (g .unequal))))))
+      (in-window-keeps (PossibleOf t v) s _ (reached-any t rule (inWindow s c) (usable r) v (g .unequal))))))
       ∙ in-window-known s next hn
 
   -- From any state, two words of a source in succession give the source's count.

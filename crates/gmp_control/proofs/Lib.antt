@@ -2,7 +2,7 @@ pub mod Tables
 mod Parity
 mod Pairing
 mod Announced
-pub mod Reading
+pub mod Reached
 pub mod Laws
 mod Needed
 pub mod Named

@@ -12,7 +12,7 @@ use Rattle.gmp_standing.specs.Known.{inWindow}
 use Rattle.gmp_control.specs.declared.Remembered.{Remembered}
 use Rattle.gmp_control.specs.Word.{countBits, equalIndicators}
 use Rattle.gmp_control.specs.Pattern.{Table}
-use Rattle.gmp_control.specs.Follow.{usable, fromCount, fromWord, trackedElsePaired, reading, windowedBy, foundBy}
+use Rattle.gmp_control.specs.Follow.{usable, fromCount, fromWord, trackedElsePaired, reached, windowedBy, foundBy}
 
 -- a standing is another than BADCHECK
 abbrev Other : Finding → Type 0
@@ -32,7 +32,7 @@ other-window s f (Known n) p = other-choice (outside s n) (finding OUTSIDE Unkno
 other-window s f Unknown p = p
 
 pub never-bad-check : (t : Table) (s : Settings) (count : Count) (before : Remembered) (w : ℕ) → sameList (foundBy t s count before w .name) BADCHECK ≡ false
-unfolding foundBy reading
+unfolding foundBy reached
 never-bad-check t s count before w =
     let rule-3 : Finding = trackedElsePaired (fromCount t (inWindow s count) w) (fromWord t (usable before) w) in
     let f : Finding = cond (equalIndicators w) (finding READ (Known (countBits w))) rule-3 in

@@ -13,7 +13,7 @@ use Rattle.gmp_control.specs.declared.Remembered.the-variants.{Word, Not
 use Rattle.gmp_control.specs.Word.{modulus, equalIndicators}
 use Rattle.gmp_control.specs.Pattern.{Short}
 use Rattle.gmp_control.specs.Announce.{announced}
-use Rattle.gmp_control.specs.Follow.{usable, tracked, candidate, paired, reading, foundBy}
+use Rattle.gmp_control.specs.Follow.{usable, tracked, candidate, paired, reached, foundBy}
 use Rattle.gmp_control.specs.Checked.{RuleIsNeeded}
 use Rattle.gmp_control.proofs.Tables.{table-lt}
 
@@ -25,7 +25,7 @@ short : (a b c d : ℕ) → a < modulus → b < modulus → c < modulus → d < 
 short a b c d = table-lt a b c d modulus
 
 pub rule-is-needed : RuleIsNeeded
-unfolding announced foundBy inWindow usable tracked candidate paired reading equalIndicators outside
+unfolding announced foundBy inWindow usable tracked candidate paired reached equalIndicators outside
 rule-is-needed =
     record {
       same = (

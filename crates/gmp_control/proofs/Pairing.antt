@@ -107,9 +107,9 @@ module _ (t : Table) (rule : Rule t) where
   pattern-of g k (inr e) = inr (ap (patternAt t) e)
 
   -- any count that a word leads to, from any count, is one of the word's two possible counts
-  pub reached : (c bits g n : ℕ) → tracked t c bits g ≡ Known n → Possible t bits g n
+  pub reached-possible : (c bits g n : ℕ) → tracked t c bits g ≡ Known n → Possible t bits g n
   unfolding tracked candidate
-  reached c bits g n = go (eqb x (patternAt t g)) (eqb x (patternAt t (g + 2))) refl refl
+  reached-possible c bits g n = go (eqb x (patternAt t g)) (eqb x (patternAt t (g + 2))) refl refl
     where
       x : ℕ
       x = bitXor bits c

@@ -59,8 +59,8 @@ trackedElsePaired Unknown (Known n) = finding PAIRED (Known n)
 trackedElsePaired Unknown Unknown = finding WAITING Unknown
 
 -- rule 2, "II = DI: the count is the C bits, word none. READ", or rule 3
-unfoldable pub reading : Table → Count → Remembered → ℕ → Finding
-reading t count before w = cond (equalIndicators w) (finding READ (Known (countBits w))) (trackedElsePaired (fromCount t count w) (fromWord t before w))
+unfoldable pub reached : Table → Count → Remembered → ℕ → Finding
+reached t count before w = cond (equalIndicators w) (finding READ (Known (countBits w))) (trackedElsePaired (fromCount t count w) (fromWord t before w))
 
 -- "A count reached in 2 or 3 that is outside the window becomes none: OUTSIDE"
 abbrev pub windowedBy : Settings → Finding → Count → Finding
@@ -73,7 +73,7 @@ windowed s f = windowedBy s f (f .count)
 -- the standing after a word w that was read, from this count and this remembered word, with
 -- this table of patterns
 unfoldable pub foundBy : Table → Settings → Count → Remembered → ℕ → Finding
-foundBy t s count before w = windowed s (reading t (inWindow s count) (usable before) w)
+foundBy t s count before w = windowed s (reached t (inWindow s count) (usable before) w)
 
 -- and with that of the settings
 abbrev pub found : Settings → Count → Remembered → ℕ → Finding

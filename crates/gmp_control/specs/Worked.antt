@@ -16,7 +16,7 @@ use Rattle.gmp_control.specs.declared.Remembered.the-variants.{Word, Not
 use Rattle.gmp_control.specs.Word.{countBits, equalIndicators, wordBytes, wordBy}
 use Rattle.gmp_control.specs.Pattern.{Table, standard, tableBy, tableOf, patternAt}
 use Rattle.gmp_control.specs.Announce.{announced}
-use Rattle.gmp_control.specs.Follow.{usable, tracked, candidate, paired, reading, foundBy, found}
+use Rattle.gmp_control.specs.Follow.{usable, tracked, candidate, paired, reached, foundBy, found}
 
 abbrev bytes : ℕ → ℕ → WordBytes
 bytes a b = record { jc1 = a; jc2 = b }
@@ -31,7 +31,7 @@ wide = newSettings 3808 0 15232
 pub false-count :
     (found wide (Known 2932) Nothing (wordBy 0x4B 0xB6) ≡ finding TRACKED (Known 2934))
     × (found wide (Known 2934) (Word (wordBy 0x4B 0xB6)) (wordBy 0x4B 0x8A) ≡ finding PAIRED (Known 14409))
-unfolding foundBy inWindow usable tracked candidate paired reading equalIndicators tableOf outside
+unfolding foundBy inWindow usable tracked candidate paired reached equalIndicators tableOf outside
 false-count = (refl, refl)
 
 -- Zero patterns, and a plus pattern that is a minus pattern: the table 0, 0, 1, 1 keeps the rule,
@@ -47,7 +47,7 @@ pub odd-table :
     × (candidate (tableOf odd) (countBits (wordBy 0xE1 0x1E)) 2 ≡ 14408)
     × (found odd Unknown Nothing (wordBy 0xE1 0x1E) ≡ finding WAITING Unknown)
     × (found odd Unknown (Word (wordBy 0xE1 0x1E)) (wordBy 0xE1 0x22) ≡ finding PAIRED (Known 14409))
-unfolding announced foundBy inWindow usable tracked candidate paired reading equalIndicators tableOf outside
+unfolding announced foundBy inWindow usable tracked candidate paired reached equalIndicators tableOf outside
 odd-table = (refl, refl, refl, refl, refl, refl)
 
 -- the paper's patterns pass too where they are given
@@ -65,5 +65,5 @@ pub one-bit-wrong :
     × (foundBy broken wide Unknown Nothing (wordBy 0xB4 0x76) ≡ finding WAITING Unknown)
     × (foundBy broken wide Unknown (Word (wordBy 0xB4 0x76)) (wordBy 0xEE 0x25) ≡ finding PAIRED (Known 4384))
     × (foundBy broken opu0 Unknown (Word (wordBy 0xB4 0x76)) (wordBy 0xEE 0x25) ≡ finding OUTSIDE Unknown)
-unfolding announced foundBy inWindow usable tracked candidate paired reading equalIndicators outside
+unfolding announced foundBy inWindow usable tracked candidate paired reached equalIndicators outside
 one-bit-wrong = (refl, refl, refl, refl, refl)

@@ -8,7 +8,7 @@ ghost use mathlib.Core.Path.{_≡_};
 ghost use Rattle.gmp_standing.specs.Standing.{standingMeaning};
 ghost use Rattle.gmp_control.specs.Word.{countBits, equalIndicators, sign, wordBy};
 ghost use Rattle.gmp_control.specs.Pattern.{tableOf};
-ghost use Rattle.gmp_control.specs.Follow.{usable, tracked, candidate, fromCount, fromWord, trackedElsePaired, reading, windowed, Follows};
+ghost use Rattle.gmp_control.specs.Follow.{usable, tracked, candidate, fromCount, fromWord, trackedElsePaired, reached, windowed, Follows};
 
 // What a word that was read leads to, from a known count or none and a remembered word or
 // none. A count outside the window and a remembered word with II = DI count as none.
@@ -41,7 +41,7 @@ fn usable_word(earlier: Remembered) -> Remembered
 
 // Rules 2 and 3, before the window.
 fn read_word(settings: Settings, count: Count, earlier: Remembered, word: u32) -> Standing
-    ensures { λ r. ⌜ standingMeaning r ≡ reading (tableOf settings) count earlier word ⌝ }
+    ensures { λ r. ⌜ standingMeaning r ≡ reached (tableOf settings) count earlier word ⌝ }
 {
     if equal_indicators(word) {
         return Standing::Read(count_bits(word));

@@ -9,10 +9,10 @@ use lib.Dec.{T, lit<, lit≤}
 use borrow.Author.Tests.{eq-eqb}
 use Rattle.math.specs.Bits.{digit, bits, differing}
 use Rattle.gmp_crc8.specs.declared.ReadWord.{ReadWord}
-use Rattle.gmp_crc8.specs.declared.Reading.{Reading}
-use Rattle.gmp_crc8.specs.declared.Reading.the-variants.{Whole, Mended, Bad}
+use Rattle.gmp_crc8.specs.declared.CheckedWord.{CheckedWord}
+use Rattle.gmp_crc8.specs.declared.CheckedWord.the-variants.{Whole, Mended, Bad}
 use Rattle.gmp_crc8.specs.Check.{remainder, passes, syndrome, word, wrongBits}
-use Rattle.gmp_crc8.specs.Reading.{readWord, bitIn, flipped, mended, readAs}
+use Rattle.gmp_crc8.specs.Checked.{readWord, bitIn, flipped, mended, checkedWord}
 use Rattle.gmp_crc8.specs.Claims.{budget, Bytes, IsOrBad, ReadsAsItself, MendsOneBit, BitsToldApart}
 use Rattle.gmp_crc8.proofs.Linear.{divide-lt}
 use Rattle.gmp_crc8.proofs.Distance.{Same, most, passed-none, distance}
@@ -24,8 +24,8 @@ unfolding passes
 written-passes jc1 jc2 = eq-eqb (remainder jc1 jc2) (remainder jc1 jc2) refl
 
 -- a word that passes is whole, whatever the setting is
-pub passed-whole : (mending : Bool) (x y z : ℕ) → passes x y z ≡ true → readAs mending x y z ≡ Whole (readWord x y)
-unfolding readAs
+pub passed-whole : (mending : Bool) (x y z : ℕ) → passes x y z ≡ true → checkedWord mending x y z ≡ Whole (readWord x y)
+unfolding checkedWord
 passed-whole mending x y z e = rw e
 
 -- a remainder is a byte
@@ -34,19 +34,19 @@ unfolding remainder
 remainder-lt jc1 jc2 = divide-lt (bits jc1 ++ (bits jc2 ++ bits 0)) 0 (lit< tt)
 
 -- one that does not pass is bad, or with mending on what its remainder says
-pub failed-off : (x y z : ℕ) → passes x y z ≡ false → readAs false x y z ≡ Bad
-unfolding readAs
+pub failed-off : (x y z : ℕ) → passes x y z ≡ false → checkedWord false x y z ≡ Bad
+unfolding checkedWord
 failed-off x y z e = rw e
 
-pub failed-on : (x y z : ℕ) → passes x y z ≡ false → readAs true x y z ≡ mended x y (syndrome x y z)
-unfolding readAs
+pub failed-on : (x y z : ℕ) → passes x y z ≡ false → checkedWord true x y z ≡ mended x y (syndrome x y z)
+unfolding checkedWord
 failed-on x y z e = rw e
 
 -- so with mending off a word goes by the check alone
-pub off-by-check : (P : Reading → Type 0) (x y z : ℕ) → (passes x y z ≡ true → P (Whole (readWord x y))) → (passes x y z ≡ false → P Bad) → P (readAs false x y z)
+pub off-by-check : (P : CheckedWord → Type 0) (x y z : ℕ) → (passes x y z ≡ true → P (Whole (readWord x y))) → (passes x y z ≡ false → P Bad) → P (checkedWord false x y z)
 off-by-check P x y z whole bad = by (passes x y z) refl
   where
-    by : (t : Bool) → passes x y z ≡ t → P (readAs false x y z)
+    by : (t : Bool) → passes x y z ≡ t → P (checkedWord false x y z)
     by true e = subst⁻¹ P (passed-whole false x y z e) (whole e)
     by false e = subst⁻¹ P (failed-off x y z e) (bad e)
 
@@ -121,41 +121,41 @@ module _ (a b c x y z : ℕ) (u : Bytes a b c) (v : Bytes x y z) (p : passes a b
       ap (λ (n : ℕ). wrongBits x y z n b c) (sym (s .0)) ∙ ap (λ (n : ℕ). wrongBits x y z i n c) (sym (s .1)) ∙ ap (wrongBits x y z i j) (sym (s .2)) ∙ g .one in
       (f .3 ∙ same-words a b i j (s .0) (s .1), differing-comm (word a b c) (word x y z) ∙ back)
 
-  mended-or-bad : (r : Reading) → mended x y (syndrome x y z) ≡ r → wrongBits a b c x y z ≤ 2 → IsOrBad a b r
+  mended-or-bad : (r : CheckedWord) → mended x y (syndrome x y z) ≡ r → wrongBits a b c x y z ≤ 2 → IsOrBad a b r
   mended-or-bad (Whole w) e h = absurd (mended-not-whole x y (syndrome x y z) w e)
   mended-or-bad (Mended w) e h = mended-same w h e .0
   mended-or-bad Bad e h = tt
 
-  itself-by : (mending t : Bool) → passes x y z ≡ t → wrongBits a b c x y z ≤ budget mending → IsOrBad a b (readAs mending x y z)
+  itself-by : (mending t : Bool) → passes x y z ≡ t → wrongBits a b c x y z ≤ budget mending → IsOrBad a b (checkedWord mending x y z)
   itself-by true true e h = subst⁻¹ (IsOrBad a b) (passed-whole true x y z e) (whole-same (omega arith) e .0)
   itself-by false true e h = subst⁻¹ (IsOrBad a b) (passed-whole false x y z e) (whole-same (omega arith) e .0)
   itself-by true false e h = subst⁻¹ (IsOrBad a b) (failed-on x y z e) (mended-or-bad (mended x y (syndrome x y z)) refl (omega arith))
   itself-by false false e h = subst⁻¹ (IsOrBad a b) (failed-off x y z e) tt
 
-  none-by : (mending : Bool) → wrongBits a b c x y z ≡ 0 → readAs mending x y z ≡ Whole (readWord a b)
+  none-by : (mending : Bool) → wrongBits a b c x y z ≡ 0 → checkedWord mending x y z ≡ Whole (readWord a b)
   none-by mending h =
       let e = none-wrong a b c x y z u v (passed-none a b c (subst⁻¹ T p tt)) h in
       passed-whole mending x y z e ∙ ap Whole (whole-same (omega arith) e .0)
 
   -- one wrong bit: the remainder is that of a bit, so it is mended
-  mends-by : (r : Reading) → mended x y (syndrome x y z) ≡ r → wrongBits a b c x y z ≡ 1 → r ≡ Mended (readWord a b)
+  mends-by : (r : CheckedWord) → mended x y (syndrome x y z) ≡ r → wrongBits a b c x y z ≡ 1 → r ≡ Mended (readWord a b)
   mends-by (Whole w) e h = absurd (mended-not-whole x y (syndrome x y z) w e)
   mends-by (Mended w) e h = ap Mended (mended-same w (omega arith) e .0)
   mends-by Bad e h =
       let j = one-wrong-found a b c x y z u v (passed-none a b c (subst⁻¹ T p tt)) h in
       absurd (mended-not-bad x y (syndrome x y z) (j .0) (j .1) (j .2) e)
 
-  one-by : (t : Bool) → passes x y z ≡ t → wrongBits a b c x y z ≡ 1 → readAs true x y z ≡ Mended (readWord a b)
+  one-by : (t : Bool) → passes x y z ≡ t → wrongBits a b c x y z ≡ 1 → checkedWord true x y z ≡ Mended (readWord a b)
   one-by true e h = absurd (omega (arith, whole-same (omega arith) e .1))
   one-by false e h = failed-on x y z e ∙ mends-by (mended x y (syndrome x y z)) refl h
 
   -- two wrong bits: it is not one
-  bad-by : (r : Reading) → mended x y (syndrome x y z) ≡ r → wrongBits a b c x y z ≡ 2 → r ≡ Bad
+  bad-by : (r : CheckedWord) → mended x y (syndrome x y z) ≡ r → wrongBits a b c x y z ≡ 2 → r ≡ Bad
   bad-by (Whole w) e h = absurd (mended-not-whole x y (syndrome x y z) w e)
   bad-by (Mended w) e h = absurd (omega (arith, mended-same w (omega arith) e .1))
   bad-by Bad e h = refl
 
-  two-by : (t : Bool) → passes x y z ≡ t → wrongBits a b c x y z ≡ 2 → readAs true x y z ≡ Bad
+  two-by : (t : Bool) → passes x y z ≡ t → wrongBits a b c x y z ≡ 2 → checkedWord true x y z ≡ Bad
   two-by true e h = absurd (omega (arith, whole-same (omega arith) e .1))
   two-by false e h = failed-on x y z e ∙ bad-by (mended x y (syndrome x y z)) refl h
 

@@ -14,10 +14,10 @@ use Rattle.math.specs.Finite.{below}
 use Rattle.math.proofs.Finite.{at-below, agree-below}
 use Rattle.math.specs.Bits.{digit, bits, differing}
 use Rattle.gmp_crc8.specs.declared.ReadWord.{ReadWord}
-use Rattle.gmp_crc8.specs.declared.Reading.the-variants.{Whole, Mended, Bad}
+use Rattle.gmp_crc8.specs.declared.CheckedWord.the-variants.{Whole, Mended, Bad}
 use Rattle.gmp_crc8.specs.Division.{reduce, divide}
 use Rattle.gmp_crc8.specs.Check.{remainder, passes, syndrome, word, wrongBits}
-use Rattle.gmp_crc8.specs.Reading.{bitIn, oneBit, flipped, firstWith, wrongBit, mended}
+use Rattle.gmp_crc8.specs.Checked.{bitIn, oneBit, flipped, firstWith, wrongBit, mended}
 use Rattle.gmp_crc8.specs.Claims.{Bytes}
 use Rattle.gmp_crc8.proofs.Linear.{step-xor, step-lt, divide-lt, times-linear, remainder-bytes}
 use Rattle.gmp_crc8.proofs.Distance.{Same, divided}

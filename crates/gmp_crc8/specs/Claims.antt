@@ -2,11 +2,11 @@
 use mathlib.Core.Path.{_≡_}
 use mathlib.Core.Bool.{Bool, true, cond}
 use Prim.Native.Nat.{ℕ, _≤_, _<_}
-use Rattle.gmp_crc8.specs.declared.Reading.{Reading}
-use Rattle.gmp_crc8.specs.declared.Reading.the-variants.{Whole, Mended, Bad}
+use Rattle.gmp_crc8.specs.declared.CheckedWord.{CheckedWord}
+use Rattle.gmp_crc8.specs.declared.CheckedWord.the-variants.{Whole, Mended, Bad}
 use Rattle.gmp_crc8.specs.Division.{divide}
 use Rattle.gmp_crc8.specs.Check.{passes, syndrome, word, wrongBits}
-use Rattle.gmp_crc8.specs.Reading.{readWord, oneBit, readAs}
+use Rattle.gmp_crc8.specs.Checked.{readWord, oneBit, checkedWord}
 
 -- how many wrong bits the check is trusted with: "two wrong bits a frame, no longer three", where
 -- mending is on
@@ -18,7 +18,7 @@ abbrev pub Bytes : ℕ → ℕ → ℕ → Type 0
 Bytes x y z = (x < 256) × (y < 256) × (z < 256)
 
 -- a reading is this word, whole or mended, or bad
-abbrev pub IsOrBad : ℕ → ℕ → Reading → Type 0
+abbrev pub IsOrBad : ℕ → ℕ → CheckedWord → Type 0
 IsOrBad a b (Whole w) = w ≡ readWord a b
 IsOrBad a b (Mended w) = w ≡ readWord a b
 IsOrBad a b Bad = Unit {0}
@@ -28,17 +28,17 @@ IsOrBad a b Bad = Unit {0}
 abbrev pub ReadsAsItself : Type 0
 ReadsAsItself =
     (mending : Bool) (a b c x y z : ℕ) → Bytes a b c → Bytes x y z → passes a b c ≡ true
-    → wrongBits a b c x y z ≤ budget mending → IsOrBad a b (readAs mending x y z)
+    → wrongBits a b c x y z ≤ budget mending → IsOrBad a b (checkedWord mending x y z)
 
 -- A word that passes, read with no wrong bit, is whole; with mending on, with one wrong bit it is
 -- mended to itself, and with two it is bad.
 pub record MendsOneBit : Type 0 where
   pub none : (mending : Bool) (a b c x y z : ℕ) → Bytes a b c → Bytes x y z → passes a b c ≡ true
-      → wrongBits a b c x y z ≡ 0 → readAs mending x y z ≡ Whole (readWord a b)
+      → wrongBits a b c x y z ≡ 0 → checkedWord mending x y z ≡ Whole (readWord a b)
   pub one : (a b c x y z : ℕ) → Bytes a b c → Bytes x y z → passes a b c ≡ true
-      → wrongBits a b c x y z ≡ 1 → readAs true x y z ≡ Mended (readWord a b)
+      → wrongBits a b c x y z ≡ 1 → checkedWord true x y z ≡ Mended (readWord a b)
   pub two : (a b c x y z : ℕ) → Bytes a b c → Bytes x y z → passes a b c ≡ true
-      → wrongBits a b c x y z ≡ 2 → readAs true x y z ≡ Bad
+      → wrongBits a b c x y z ≡ 2 → checkedWord true x y z ≡ Bad
 
 -- The syndrome of three bytes is the remainder of their 24 bits as read, by long division, and the
 -- word passes if and only if it is zero (clause 17.7.1: "In the absence of bit errors, the

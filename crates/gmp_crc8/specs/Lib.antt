@@ -1,6 +1,6 @@
 -- The check of the control word, and what a word reads as. Assumes nothing.
 pub mod Division
 pub mod Check
-pub mod Reading
+pub mod Checked
 pub mod Claims
 pub mod Worked

@@ -4,9 +4,9 @@ use mathlib.Core.Path.{_≡_, refl}
 use mathlib.Core.Bool.{true, false, xor}
 use Rattle.math.specs.Bits.{bits, differing}
 use Rattle.gmp_crc8.specs.Division.{reduce, divide}
-use Rattle.gmp_crc8.specs.declared.Reading.the-variants.{Whole, Mended, Bad}
+use Rattle.gmp_crc8.specs.declared.CheckedWord.the-variants.{Whole, Mended, Bad}
 use Rattle.gmp_crc8.specs.Check.{remainder, passes, syndrome, word, wrongBits}
-use Rattle.gmp_crc8.specs.Reading.{readWord, oneBit, firstWith, wrongBit, mended, readAs, bitIn, flipped}
+use Rattle.gmp_crc8.specs.Checked.{readWord, oneBit, firstWith, wrongBit, mended, checkedWord, bitIn, flipped}
 
 -- four wrong bits can pass: two words that both pass differ in four places
 pub four-wrong : (passes 0x00 0x00 0x00 ≡ true) × (passes 0x00 0xA0 0x03 ≡ true) × (wrongBits 0x00 0x00 0x00 0x00 0xA0 0x03 ≡ 4)
@@ -16,23 +16,23 @@ four-wrong = (refl, refl, refl)
 -- E1 1C 6E with its first bit wrong, with the last one of JC2, and with the last one of JC3: mended
 -- where mending is on, and bad where it is off
 pub one-wrong :
-    (readAs true 0x61 0x1C 0x6E ≡ Mended (readWord 0xE1 0x1C))
-    × (readAs true 0xE1 0x1D 0x6E ≡ Mended (readWord 0xE1 0x1C))
-    × (readAs true 0xE1 0x1C 0x6F ≡ Mended (readWord 0xE1 0x1C))
-    × (readAs false 0x61 0x1C 0x6E ≡ Bad)
-    × (readAs false 0xE1 0x1C 0x6F ≡ Bad)
-unfolding readAs mended wrongBit firstWith oneBit syndrome passes remainder divide reduce bits bitIn flipped
+    (checkedWord true 0x61 0x1C 0x6E ≡ Mended (readWord 0xE1 0x1C))
+    × (checkedWord true 0xE1 0x1D 0x6E ≡ Mended (readWord 0xE1 0x1C))
+    × (checkedWord true 0xE1 0x1C 0x6F ≡ Mended (readWord 0xE1 0x1C))
+    × (checkedWord false 0x61 0x1C 0x6E ≡ Bad)
+    × (checkedWord false 0xE1 0x1C 0x6F ≡ Bad)
+unfolding checkedWord mended wrongBit firstWith oneBit syndrome passes remainder divide reduce bits bitIn flipped
 one-wrong = (refl, refl, refl, refl, refl)
 
 -- the word itself is whole either way, and with two wrong bits it is bad
 pub none-and-two :
-    (readAs true 0xE1 0x1C 0x6E ≡ Whole (readWord 0xE1 0x1C))
-    × (readAs false 0xE1 0x1C 0x6E ≡ Whole (readWord 0xE1 0x1C))
-    × (readAs true 0xE1 0x1D 0x6F ≡ Bad)
-unfolding readAs mended wrongBit firstWith oneBit syndrome passes remainder divide reduce bits bitIn flipped
+    (checkedWord true 0xE1 0x1C 0x6E ≡ Whole (readWord 0xE1 0x1C))
+    × (checkedWord false 0xE1 0x1C 0x6E ≡ Whole (readWord 0xE1 0x1C))
+    × (checkedWord true 0xE1 0x1D 0x6F ≡ Bad)
+unfolding checkedWord mended wrongBit firstWith oneBit syndrome passes remainder divide reduce bits bitIn flipped
 none-and-two = (refl, refl, refl)
 
 -- with mending on three wrong bits can give another word: 00 00 00 read as 00 10 C0
-pub three-wrong : (readAs true 0x00 0x10 0xC0 ≡ Mended (readWord 0x00 0x10)) × (wrongBits 0x00 0x00 0x00 0x00 0x10 0xC0 ≡ 3)
-unfolding readAs mended wrongBit firstWith oneBit syndrome passes remainder divide reduce bits word differing xor bitIn flipped wrongBits
+pub three-wrong : (checkedWord true 0x00 0x10 0xC0 ≡ Mended (readWord 0x00 0x10)) × (wrongBits 0x00 0x00 0x00 0x00 0x10 0xC0 ≡ 3)
+unfolding checkedWord mended wrongBit firstWith oneBit syndrome passes remainder divide reduce bits word differing xor bitIn flipped wrongBits
 three-wrong = (refl, refl)

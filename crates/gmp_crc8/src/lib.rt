@@ -10,7 +10,7 @@ pub struct ReadWord {
 }
 
 // What a control word reads as: whole, with one wrong bit mended, or bad.
-pub enum Reading {
+pub enum CheckedWord {
     Whole(ReadWord),
     Mended(ReadWord),
     Bad,

@@ -1,15 +1,15 @@
 // The check worked out a byte at a time, and a control word read by it. 01's "It is worked from a
 // table of 256 remainders" is replaced by 02, P5: "Work each remainder from the division rule
 // itself".
+use gmp_crc8::CheckedWord;
 use gmp_crc8::ReadWord;
-use gmp_crc8::Reading;
 ghost use mathlib.Core.Path.{_≡_};
 ghost use mathlib.Core.Bool.{cond};
 ghost use Prim.Native.Nat.{_<_};
 ghost use Rattle.math.specs.Bits.{bits};
 ghost use Rattle.gmp_crc8.specs.Division.{divide};
 ghost use Rattle.gmp_crc8.specs.Check.{remainder, passes};
-ghost use Rattle.gmp_crc8.specs.Reading.{bitIn, oneBit, flipped, wrongBit, mended, readAs};
+ghost use Rattle.gmp_crc8.specs.Checked.{bitIn, oneBit, flipped, wrongBit, mended, checkedWord};
 
 // The remainders of one wrong bit among the 24 of JC1 to JC3, most significant first (02, P1).
 const ONE_BIT: [u8; 24] = [
@@ -55,27 +55,27 @@ pub fn passes(jc1: u8, jc2: u8, jc3: u8) -> bool
 
 // What the three bytes read as. Where they fail the check, and mending is on, a remainder of one
 // wrong bit has that bit flipped.
-pub fn read(mending: bool, jc1: u8, jc2: u8, jc3: u8) -> Reading
-    ensures { λ r. ⌜ r ≡ readAs mending jc1 jc2 jc3 ⌝ }
+pub fn read(mending: bool, jc1: u8, jc2: u8, jc3: u8) -> CheckedWord
+    ensures { λ r. ⌜ r ≡ checkedWord mending jc1 jc2 jc3 ⌝ }
 {
     if passes(jc1, jc2, jc3) {
-        return Reading::Whole(ReadWord { jc1: jc1, jc2: jc2 });
+        return CheckedWord::Whole(ReadWord { jc1: jc1, jc2: jc2 });
     }
     if mending {
         return mend(jc1, jc2, jc3 ^ remainder(jc1, jc2));
     }
-    Reading::Bad
+    CheckedWord::Bad
 }
 
 // The word with the bit flipped that alone wrong gives this remainder, or bad where none does.
-fn mend(jc1: u8, jc2: u8, syndrome: u8) -> Reading
+fn mend(jc1: u8, jc2: u8, syndrome: u8) -> CheckedWord
     ensures { λ r. ⌜ r ≡ mended jc1 jc2 syndrome ⌝ }
 {
     let bit = wrong_bit(syndrome);
     if bit < 24 {
-        return Reading::Mended(flip(jc1, jc2, bit));
+        return CheckedWord::Mended(flip(jc1, jc2, bit));
     }
-    Reading::Bad
+    CheckedWord::Bad
 }
 
 // The bit that alone wrong gives this remainder, or 24. All are looked at, from the last to the

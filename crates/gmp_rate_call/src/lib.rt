@@ -40,7 +40,7 @@ pub fn next_count(settings: Settings, p: u32, q: u32, r: u32) -> KeeperResult
 fn judge_call(settings: Settings, p: u32, q: u32, r: u32) -> Verdict
     ensures { λ v. ⌜ verdictNumber v ≡ keeperRefusal settings p q r ⌝ }
 {
-    let fit = gmp_settings_judge::judge(settings);
+    let fit = gmp_settings_judge::judge_grid_and_window(settings);
     let divisor = gmp_refusal::refuse_if(fit, is_bad_divisor(q), Refusal::Divisor);
     let rate = gmp_refusal::refuse_if(divisor, is_bad_rate(settings, p, q), Refusal::Rate);
     let state = gmp_refusal::refuse_if(rate, q <= r, Refusal::State);

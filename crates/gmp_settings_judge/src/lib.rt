@@ -13,7 +13,7 @@ ghost use Rattle.gmp_settings.specs.Settings.{badGrid, badWindow, settingsReaso
 ghost use Rattle.gmp_settings.specs.Patterns.{breaksRule, exceeds, badPatterns};
 
 // Numbers 1 and 2: the checks that every call begins with. Number 14 comes after a call's own.
-pub fn judge(settings: Settings) -> Verdict
+pub fn judge_grid_and_window(settings: Settings) -> Verdict
     ensures { λ r. ⌜ verdictNumber r ≡ lowest (settingsReasons settings) ⌝ }
 {
     let bad_grid = is_bad_grid(settings);

@@ -8,10 +8,10 @@ use lib.Dec.{eqb, ltb, lit<}
 use lib.ListN.{length, drop}
 use borrow.Author.Tests.{eqb-true, eqb-false, ltb-false, not-false, eq-eqb, ne-eqb}
 use Rattle.math.specs.Choice.{sameList}
-use Rattle.gmp_crc8.specs.declared.Reading.{Reading}
-use Rattle.gmp_crc8.specs.declared.Reading.the-variants.{Whole, Mended, Bad}
+use Rattle.gmp_crc8.specs.declared.CheckedWord.{CheckedWord}
+use Rattle.gmp_crc8.specs.declared.CheckedWord.the-variants.{Whole, Mended, Bad}
 use Rattle.gmp_crc8.specs.Check.{passes}
-use Rattle.gmp_crc8.specs.Reading.{readWord, readAs}
+use Rattle.gmp_crc8.specs.Checked.{readWord, checkedWord}
 use Rattle.gmp_crc8.proofs.Laws.{off-by-check}
 use Rattle.gmp_settings.specs.declared.Settings.{Settings}
 use Rattle.gmp_refusal.specs.declared.Refusal.{Refusal}
@@ -31,7 +31,7 @@ use Rattle.gmp_standing.specs.Known.{inWindow}
 use Rattle.gmp_control.specs.declared.Remembered.{Remembered}
 use Rattle.gmp_control.specs.declared.Remembered.the-variants.{Word, Nothing}
 use Rattle.gmp_control.specs.Word.{wordBy}
-use Rattle.gmp_control.specs.Follow.{usable, reading, windowedBy, windowed, foundBy, found}
+use Rattle.gmp_control.specs.Follow.{usable, reached, windowedBy, windowed, foundBy, found}
 use Rattle.gmp_control.specs.Pattern.{tableOf}
 use Rattle.gmp_control.proofs.Named.{never-bad-check}
 use Rattle.gmp_frame.specs.declared.Control.{Control}
@@ -43,7 +43,7 @@ use Rattle.gmp_payload_type.proofs.Laws.{open-off, types-off}
 use Rattle.gmp_sink.specs.declared.SinkState.{SinkState}
 use Rattle.gmp_sink.specs.declared.SinkAnswer.the-variants.{Done, Refused}
 use Rattle.gmp_sink.specs.declared.SinkResult.{SinkResult}
-use Rattle.gmp_sink.specs.Sink.{newSink, sinkReasons, sinkRefusal, handed, released, readingOf, standingBy, standingAfter, wordAfter, stateAfter, withTypes, frameAfter, isMended, mendedIn, answerMeaning, sinkAnswer, sinkState, sinkMended, sinkHanded, sinkOut, SinkPromise, UncheckedAsBefore, CountsFollowed, AnyPort, OffAsBefore}
+use Rattle.gmp_sink.specs.Sink.{newSink, sinkReasons, sinkRefusal, handed, released, checkedIn, standingBy, standingAfter, wordAfter, stateAfter, withTypes, frameAfter, isMended, mendedIn, answerMeaning, sinkAnswer, sinkState, sinkMended, sinkHanded, sinkOut, SinkPromise, UncheckedAsBefore, CountsFollowed, AnyPort, OffAsBefore}
 
 -- What is known of a call that no number turns back. Its port is not among it: nothing that is done
 -- then looks at the port.
@@ -188,7 +188,7 @@ unchecked-as-before =
       handed-bytes = λ s z w frame out p off. unchecked-handed s z frame w out p off;
     }
 
-module _ (s : Settings) (z : SinkState) (c : Control) (r : Reading) (e : readingOf s c ≡ r) where
+module _ (s : Settings) (z : SinkState) (c : Control) (r : CheckedWord) (e : checkedIn s c ≡ r) where
   -- control bytes lead where what they read as leads
   pub standing-read : standingAfter s z c ≡ standingBy s z r
   unfolding standingAfter
@@ -234,7 +234,7 @@ module _ {s : Settings} {z : SinkState} {w : Expected} {frame out : List ℕ} {p
 
 -- A call that mended a bit was accepted, and has another standing than BADCHECK.
 module _ (s : Settings) (z : SinkState) where
-  other-by : (r : Reading) → isMended r ≡ true → sameList (standingBy s z r .name) BADCHECK ≡ false
+  other-by : (r : CheckedWord) → isMended r ≡ true → sameList (standingBy s z r .name) BADCHECK ≡ false
   other-by (Whole w) e = absurd (true≢false (sym e))
   other-by (Mended w) e = never-bad-check (tableOf s) s (z .count) (z .word) (wordBy (w .jc1) (w .jc2))
   other-by Bad e = absurd (true≢false (sym e))
@@ -248,7 +248,7 @@ module _ (s : Settings) (z : SinkState) where
     mended-answers =
         let none = mended-by _ refl in
         let c = controlOf (s .k) frame in
-        let r = readingOf s c in (
+        let r = checkedIn s c in (
           standingAfter s z c,
           answer-accepted s z frame out p none,
           ap (λ (f : Finding). sameList (f .name) BADCHECK) (standing-read s z c r refl)
@@ -309,18 +309,18 @@ module _ (s : Settings) (b : Bool) where
   unchecked-found : (c : Count) (before : Remembered) (w : ℕ) → found (withTypeCheck s b) c before w ≡ found s c before w
   unfolding foundBy tableOf
   unchecked-found c before w =
-      let f : Finding = reading (tableOf s) (inWindow s c) (usable before) w in
-      ap (λ (k : Count). windowed (withTypeCheck s b) (reading (tableOf s) k (usable before) w)) (unchecked-window c) ∙ unchecked-windowed f (f .count)
+      let f : Finding = reached (tableOf s) (inWindow s c) (usable before) w in
+      ap (λ (k : Count). windowed (withTypeCheck s b) (reached (tableOf s) k (usable before) w)) (unchecked-window c) ∙ unchecked-windowed f (f .count)
 
   module _ (z : SinkState) (t : Types) where
-    followed-by : (r : Reading) → standingBy (withTypeCheck s b) (withTypes z t) r ≡ standingBy s z r
+    followed-by : (r : CheckedWord) → standingBy (withTypeCheck s b) (withTypes z t) r ≡ standingBy s z r
     followed-by (Whole w) = unchecked-found (z .count) (z .word) (wordBy (w .jc1) (w .jc2))
     followed-by (Mended w) = unchecked-found (z .count) (z .word) (wordBy (w .jc1) (w .jc2))
     followed-by Bad = refl
 
     followed-standing : (c : Control) → standingAfter (withTypeCheck s b) (withTypes z t) c ≡ standingAfter s z c
     unfolding standingAfter
-    followed-standing c = followed-by (readingOf s c)
+    followed-standing c = followed-by (checkedIn s c)
 
   followed-refusal : (f o p : ℕ) → sinkRefusal (withTypeCheck s b) f o p ≡ sinkRefusal s f o p
   unfolding sinkRefusal
@@ -364,19 +364,19 @@ counts-followed =
     }
 
 -- With mending off a reading goes by the check alone.
-off-reading : (P : Reading → Type 0) (s : Settings) (c : Control) → s .mending ≡ false → (passes (c .jc1) (c .jc2) (c .jc3) ≡ true → P (Whole (readWord (c .jc1) (c .jc2))))
-    → (passes (c .jc1) (c .jc2) (c .jc3) ≡ false → P Bad) → P (readingOf s c)
+off-reading : (P : CheckedWord → Type 0) (s : Settings) (c : Control) → s .mending ≡ false → (passes (c .jc1) (c .jc2) (c .jc3) ≡ true → P (Whole (readWord (c .jc1) (c .jc2))))
+    → (passes (c .jc1) (c .jc2) (c .jc3) ≡ false → P Bad) → P (checkedIn s c)
 off-reading P s c off whole bad =
-    subst⁻¹ (λ (b : Bool). P (readAs b (c .jc1) (c .jc2) (c .jc3))) off (off-by-check P (c .jc1) (c .jc2) (c .jc3) whole bad)
+    subst⁻¹ (λ (b : Bool). P (checkedWord b (c .jc1) (c .jc2) (c .jc3))) off (off-by-check P (c .jc1) (c .jc2) (c .jc3) whole bad)
 
 pub off-as-before : OffAsBefore
 off-as-before =
     record {
-      standing = λ s z c off. standing-read s z c (readingOf s c) refl
-          ∙ off-reading (λ (r : Reading). standingBy s z r ≡ cond (passes (c .jc1) (c .jc2) (c .jc3)) (found s (z .count) (z .word) (wordBy (c .jc1) (c .jc2))) (finding BADCHECK Unknown))
+      standing = λ s z c off. standing-read s z c (checkedIn s c) refl
+          ∙ off-reading (λ (r : CheckedWord). standingBy s z r ≡ cond (passes (c .jc1) (c .jc2) (c .jc3)) (found s (z .count) (z .word) (wordBy (c .jc1) (c .jc2))) (finding BADCHECK Unknown))
           s c off (λ e. rw e) (λ e. rw e);
-      word = λ s z c off. word-read s z c (readingOf s c) refl
-          ∙ off-reading (λ (r : Reading). wordAfter r ≡ cond (passes (c .jc1) (c .jc2) (c .jc3)) (usable (Word (wordBy (c .jc1) (c .jc2)))) Nothing)
+      word = λ s z c off. word-read s z c (checkedIn s c) refl
+          ∙ off-reading (λ (r : CheckedWord). wordAfter r ≡ cond (passes (c .jc1) (c .jc2) (c .jc3)) (usable (Word (wordBy (c .jc1) (c .jc2)))) Nothing)
           s c off (λ e. rw e) (λ e. rw e);
-      none-mended = λ s c off. mended-read s newSink c (readingOf s c) refl ∙ off-reading (λ (r : Reading). isMended r ≡ false) s c off (λ e. refl) (λ e. refl);
+      none-mended = λ s c off. mended-read s newSink c (checkedIn s c) refl ∙ off-reading (λ (r : CheckedWord). isMended r ≡ false) s c off (λ e. refl) (λ e. refl);
     }

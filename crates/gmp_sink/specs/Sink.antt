@@ -7,10 +7,10 @@ use mathlib.Core.List.{List, [], _∷_, _++_}
 use Prim.Native.Nat.{ℕ}
 use lib.Dec.{eqb, ltb}
 use lib.ListN.{length, drop}
-use Rattle.gmp_crc8.specs.declared.Reading.{Reading}
-use Rattle.gmp_crc8.specs.declared.Reading.the-variants.{Whole, Mended, Bad}
+use Rattle.gmp_crc8.specs.declared.CheckedWord.{CheckedWord}
+use Rattle.gmp_crc8.specs.declared.CheckedWord.the-variants.{Whole, Mended, Bad}
 use Rattle.gmp_crc8.specs.Check.{passes}
-use Rattle.gmp_crc8.specs.Reading.{readAs}
+use Rattle.gmp_crc8.specs.Checked.{checkedWord}
 use Rattle.gmp_settings.specs.declared.Settings.{Settings}
 use Rattle.gmp_settings.specs.Grid.{frameBytes}
 use Rattle.refusals.specs.Table.{Reason, reason, lowest, Answer, accepted, refused, answerBy}
@@ -69,29 +69,29 @@ unfoldable pub released : Settings → SinkState → Expected → List ℕ → L
 released s z e frame = cond (gateOpen (s .«type_check») (z .types) e) (handed s z frame) []
 
 -- what the control bytes read as: whole, mended where the settings say so, or bad (02, P1)
-abbrev pub readingOf : Settings → Control → Reading
-readingOf s c = readAs (s .mending) (c .jc1) (c .jc2) (c .jc3)
+abbrev pub checkedIn : Settings → Control → CheckedWord
+checkedIn s c = checkedWord (s .mending) (c .jc1) (c .jc2) (c .jc3)
 
 -- Rule 1, "The check fails: count none, word none. BADCHECK", which 02, P1 replaces where a bit is
 -- mended, or what the word leads to. (Clause 17.7.1 lets a sink still compare the bits of a bad
 -- word with the patterns; 01 does not.)
-abbrev pub standingBy : Settings → SinkState → Reading → Finding
+abbrev pub standingBy : Settings → SinkState → CheckedWord → Finding
 standingBy s z (Whole w) = found s (z .count) (z .word) (wordBy (w .jc1) (w .jc2))
 standingBy s z (Mended w) = found s (z .count) (z .word) (wordBy (w .jc1) (w .jc2))
 standingBy s z Bad = finding BADCHECK Unknown
 
 unfoldable pub standingAfter : Settings → SinkState → Control → Finding
-standingAfter s z c = standingBy s z (readingOf s c)
+standingAfter s z c = standingBy s z (checkedIn s c)
 
 -- the word that is remembered: that which was read, mended or not, where II ≠ DI
-abbrev pub wordAfter : Reading → Remembered
+abbrev pub wordAfter : CheckedWord → Remembered
 wordAfter (Whole w) = usable (Word (wordBy (w .jc1) (w .jc2)))
 wordAfter (Mended w) = usable (Word (wordBy (w .jc1) (w .jc2)))
 wordAfter Bad = Nothing
 
 -- the state after these control bytes: what was found, and the word
 unfoldable pub stateAfter : Settings → SinkState → Control → SinkState
-stateAfter s z c = record { count = standingAfter s z c .count; word = wordAfter (readingOf s c); types = z .types }
+stateAfter s z c = record { count = standingAfter s z c .count; word = wordAfter (checkedIn s c); types = z .types }
 
 -- the same state with other types remembered
 abbrev pub withTypes : SinkState → Types → SinkState
@@ -105,13 +105,13 @@ frameAfter s z e frame =
     withTypes (stateAfter s z (controlOf (s .k) frame)) (typesAfter (s .«type_check») (z .types) e (psiOf (s .k) frame))
 
 -- "whether it was mended"
-abbrev pub isMended : Reading → Bool
+abbrev pub isMended : CheckedWord → Bool
 isMended (Whole w) = false
 isMended (Mended w) = true
 isMended Bad = false
 
 unfoldable pub mendedIn : Settings → Control → Bool
-mendedIn s c = isMended (readingOf s c)
+mendedIn s c = isMended (checkedIn s c)
 
 -- With mending off all is as 01 says: the standing, the word that is remembered, and no frame is
 -- mended.

@@ -32,7 +32,7 @@ pub struct SinkResult {
 }
 
 // What the control bytes of a frame lead to, and whether one of their bits was mended.
-pub struct Heard {
+pub struct ControlRead {
     pub followed: Followed,
     pub mended: bool,
 }

@@ -107,8 +107,8 @@ fn read_frame(settings: Settings, state: SinkState, expected: Expected, frame: &
     ensures { λ r. ⌜ ReadsFrame settings state expected (now (frame .entry)) (r .answer) (r .state) (r .mended) ⌝ }
 {
     let control = gmp_frame::control_of(frame, settings.k);
-    let heard = gmp_sink_control::read_control(settings, state, control);
-    let followed = heard.followed;
+    let read = gmp_sink_control::read_control(settings, state, control);
+    let followed = read.followed;
     let standing = followed.standing;
     let count = followed.count;
     let word = followed.word;
@@ -122,6 +122,6 @@ fn read_frame(settings: Settings, state: SinkState, expected: Expected, frame: &
             word: word,
             types: types,
         },
-        mended: heard.mended,
+        mended: read.mended,
     }
 }

@@ -10,7 +10,7 @@ ghost use Rattle.gmp_sink.specs.Sink.{sinkRefusal};
 pub fn judge_call(settings: Settings, frame_length: usize, space: usize, port: u32) -> Verdict
     ensures { λ v. ⌜ verdictNumber v ≡ sinkRefusal settings «frame_length» space port ⌝ }
 {
-    let fit = gmp_settings_judge::judge(settings);
+    let fit = gmp_settings_judge::judge_grid_and_window(settings);
     let length = gmp_settings_judge::frame_length(settings);
     let too_short = space < settings.hi as usize;
     let bad_port = gmp_port::is_bad_port(port);

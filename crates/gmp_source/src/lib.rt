@@ -47,16 +47,16 @@ pub fn new_source(settings: Settings, first: u32, payload_type: u8) -> SourceSta
 fn judge_start(settings: Settings, first: u32) -> Verdict
     ensures { λ v. ⌜ verdictNumber v ≡ startRefusal settings first ⌝ }
 {
-    let state = judge_state(settings, first);
+    let state = judge_grid_window_and_state(settings, first);
     let bad_patterns = gmp_settings_judge::is_bad_patterns(settings);
     gmp_refusal::refuse_if(state, bad_patterns, Refusal::Patterns)
 }
 
 // Numbers 1, 2 and 5, for the first count of a new source or the present one of a call.
-pub fn judge_state(settings: Settings, count: u32) -> Verdict
+pub fn judge_grid_window_and_state(settings: Settings, count: u32) -> Verdict
     ensures { λ v. ⌜ verdictNumber v ≡ lowest (stateReasons settings count) ⌝ }
 {
-    let fit = gmp_settings_judge::judge(settings);
+    let fit = gmp_settings_judge::judge_grid_and_window(settings);
     let is_outside = gmp_settings_judge::is_outside(settings, count);
     gmp_refusal::refuse_if(fit, is_outside, Refusal::State)
 }

@@ -52,7 +52,7 @@ fn judge_call(
     ensures { λ v. ⌜ verdictNumber v ≡ sourceRefusal settings state next «client_length» «frame_length» ⌝ }
 {
     let present = state.count;
-    let state = gmp_source::judge_state(settings, present);
+    let state = gmp_source::judge_grid_window_and_state(settings, present);
     let is_outside = gmp_settings_judge::is_outside(settings, next);
     let count = gmp_refusal::refuse_if(state, is_outside, Refusal::Count);
     let client = gmp_refusal::refuse_if(count, client_length != present as usize, Refusal::Client);

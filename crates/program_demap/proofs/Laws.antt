@@ -23,7 +23,7 @@ use Rattle.gmp_sink.specs.declared.SinkAnswer.the-variants.{Done, Refused}
 use Rattle.gmp_sink.specs.declared.SinkResult.{SinkResult}
 use Rattle.gmp_sink.specs.Sink.{sinkRefusal}
 use Rattle.gmp_sink.proofs.Laws.{answer-accepted, state-accepted, mended-accepted, handed-accepted, out-accepted, never-refused, done-says}
-use Rattle.card_promise.specs.Card.{badFrames, talliesBy, talliesAfter, CallPromise}
+use Rattle.card_promise.specs.Card.{badFrames, talliesBy, talliesAfter, CardPromise}
 use Rattle.program_demap.specs.declared.Wanted.{Wanted}
 use Rattle.program_demap.specs.declared.Demapper.{Demapper}
 use Rattle.program_demap.specs.Frames.{settingsOf, expectedOf, standingOf, handedBytes, numberAfter, Takes}
@@ -65,7 +65,7 @@ module _ (wanted : Wanted) (d : Demapper) (frame out : List ℕ) (size : length 
       (handed-accepted s (d .state) frame told out 1 none-refused)
       ∙ own-port-only .own card 1 1 (badFrames (standingOf wanted d frame)) (length (handedBytes wanted d frame)) refl refl
 
-  module _ (r : SinkResult) (after : List ℕ) (tallies : Tallies) (p : CallPromise s (d .state) told frame out 1 card r after tallies) where
+  module _ (r : SinkResult) (after : List ℕ) (tallies : Tallies) (p : CardPromise s (d .state) told frame out 1 card r after tallies) where
     pub not-refused : (x : Refusal) → r .answer ≡ Refused x → ⊥
     not-refused = never-refused none-refused (p .sink)
 

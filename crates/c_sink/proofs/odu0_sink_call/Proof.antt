@@ -14,18 +14,18 @@ use Rattle.gmp_payload_type.specs.declared.Expected.{Expected}
 use Rattle.gmp_sink.specs.declared.SinkState.{SinkState}
 use Rattle.gmp_sink.specs.declared.SinkResult.{SinkResult}
 use Rattle.gmp_sink.specs.Sink.{answerMeaning, sinkAnswer, sinkMended, sinkHanded}
-use Rattle.card_promise.specs.Card.{CallPromise}
+use Rattle.card_promise.specs.Card.{CardPromise}
 use Rattle.c_settings.specs.Numbers.{settingsFrom}
 use Rattle.c_sink_numbers.specs.declared.SinkNumbers.{SinkNumbers}
 use Rattle.c_sink_numbers.specs.declared.SinkReply.{SinkReply}
-use Rattle.c_sink_numbers.specs.Numbers.{stateFrom, sinkReplyBy, talliesFrom, talliesNumbers, SinkCallPromise}
+use Rattle.c_sink_numbers.specs.Numbers.{stateFrom, sinkReplyBy, talliesFrom, talliesNumbers, InterfacePromise}
 use Rattle.c_sink.proofs.odu0_sink_call.Statement.{statement}
 use Rattle.c_sink.proofs.odu0_sink_call.Tie as tie
 
 -- a call that keeps its promise keeps this one, in numbers
 in-numbers : (s : Settings) (given : SinkNumbers) (e : Expected) (frame out : List ℕ) (port : ℕ) (tallies : List ℕ) (r : SinkResult) (out-after : List ℕ) (y : Tallies)
-    → CallPromise s (stateFrom given) e frame out port (talliesFrom tallies) r out-after y
-    → SinkCallPromise s given e frame out port tallies (sinkReplyBy given (answerMeaning (r .answer)) (r .handed) (r .mended) (r .state)) out-after (talliesNumbers y)
+    → CardPromise s (stateFrom given) e frame out port (talliesFrom tallies) r out-after y
+    → InterfacePromise s given e frame out port tallies (sinkReplyBy given (answerMeaning (r .answer)) (r .handed) (r .mended) (r .state)) out-after (talliesNumbers y)
 in-numbers s given e frame out port tallies r out-after y p =
     let z = stateFrom given in
     let answer = sinkAnswer s z frame out port in
@@ -44,14 +44,14 @@ in-numbers s given e frame out port tallies r out-after y p =
 of-numbers : (u s : Settings) (x : SinkState) (t : Tallies) (given : SinkNumbers) (e : Expected) (frame out : List ℕ) (port : ℕ) (tallies : List ℕ) (r : SinkResult)
     (out-after : List ℕ) (y : Tallies) (w : SinkReply) (tallies-after : List ℕ)
     → u ≡ s → x ≡ stateFrom given → t ≡ talliesFrom tallies → w ≡ sinkReplyBy given (answerMeaning (r .answer)) (r .handed) (r .mended) (r .state) → tallies-after ≡ talliesNumbers y
-    → CallPromise u x e frame out port t r out-after y → SinkCallPromise s given e frame out port tallies w out-after tallies-after
+    → CardPromise u x e frame out port t r out-after y → InterfacePromise s given e frame out port tallies w out-after tallies-after
 of-numbers u s x t given e frame out port tallies r out-after y w tallies-after q f h g k p =
-    subst⁻¹ (λ (v : SinkReply). SinkCallPromise s given e frame out port tallies v out-after tallies-after) g
-    (subst⁻¹ (SinkCallPromise s given e frame out port tallies _ out-after) k
+    subst⁻¹ (λ (v : SinkReply). InterfacePromise s given e frame out port tallies v out-after tallies-after) g
+    (subst⁻¹ (InterfacePromise s given e frame out port tallies _ out-after) k
     (in-numbers s given e frame out port tallies r out-after y
-    (subst (λ (a : Tallies). CallPromise s (stateFrom given) e frame out port a r out-after y) h
-    (subst (λ (z : SinkState). CallPromise s z e frame out port t r out-after y) f
-    (subst (λ (v : Settings). CallPromise v x e frame out port t r out-after y) q p)))))
+    (subst (λ (a : Tallies). CardPromise s (stateFrom given) e frame out port a r out-after y) h
+    (subst (λ (z : SinkState). CardPromise s z e frame out port t r out-after y) f
+    (subst (λ (v : Settings). CardPromise v x e frame out port t r out-after y) q p)))))
 
 tallies-from-requires : tie.Need-tallies-from-requires
 tallies-from-requires c κs = search needs

@@ -50,7 +50,7 @@ use Rattle.gmp_sink.specs.declared.SinkState.{SinkState}
 use Rattle.card_tally.specs.declared.Tallies.{Tallies}
 use Rattle.gmp_sink.specs.declared.SinkResult.{SinkResult}
 use Rattle.card_count.specs.declared.Counted.{Counted}
-use Rattle.card_promise.specs.Card.{CallPromise}
+use Rattle.card_promise.specs.Card.{CardPromise}
 use Rattle.gmp_settings.proofs.Settings as S
 use Rattle.gmp_settings.proofs.Settings.Laws as S′
 use Rattle.gmp_payload_type.proofs.Expected as E
@@ -137,7 +137,7 @@ module _ {M : Type 1} (𝓤 : URA M) (H : Heap 𝓤) (A : Atoms 𝓤) (W : Given
 
   -- what `sink_call` ensures, of its result r, the last list zs and the last tallies y
   abbrev Said : SinkResult → List ℕ → Tallies → Type 0
-  Said r zs y = CallPromise s t w (f .now) (x .now) n h r zs y
+  Said r zs y = CardPromise s t w (f .now) (x .now) n h r zs y
 
   abbrev whole-of : SinkResult → Tallies → Counted
   whole-of r y = record { result = r; tallies = y }

@@ -49,7 +49,7 @@ use Rattle.gmp_sink.specs.declared.SinkState.{SinkState}
 use Rattle.card_tally.specs.declared.Tallies.{Tallies}
 use Rattle.gmp_sink.specs.declared.SinkResult.{SinkResult}
 use Rattle.card_count.specs.declared.Counted.{Counted}
-use Rattle.card_promise.specs.Card.{CallPromise}
+use Rattle.card_promise.specs.Card.{CardPromise}
 use Rattle.gmp_settings.proofs.Settings as S
 use Rattle.gmp_settings.proofs.Settings.Laws as S′
 use Rattle.gmp_payload_type.proofs.Expected as E
@@ -124,7 +124,7 @@ module _ {M : Type 1} (𝓤 : URA M) (H : Heap 𝓤) (A : Atoms 𝓤) (W : Given
 
   -- what `count_call` ensures, of its result r and the last list zs
   abbrev Said : Counted → List ℕ → Type 0
-  Said r zs = CallPromise s t u (f .now) (x .now) n h (r .result) zs (r .tallies)
+  Said r zs = CardPromise s t u (f .now) (x .now) n h (r .result) zs (r .tallies)
 
   abbrev Post : Val → SProp 𝓤
   Post = walkOf 𝓤 H A call.ended stayed (call.clauses 𝓤 H A at-mem run) .post (((κ₀, (κ₁, (κ₂, tt))), (q₀, (q₁, (q₂, tt))), tt, a, vals), tt)

@@ -1,5 +1,5 @@
 -- `claim_worked::readable_runs` meets its contract. Assumes nothing.
-use Rattle.claim_worked.proofs.Reading.{readable}
+use Rattle.claim_worked.proofs.Readable.{readable}
 use Rattle.claim_worked.proofs.readable_runs.Statement.{statement}
 use Rattle.claim_worked.proofs.readable_runs.Tie as tie
 

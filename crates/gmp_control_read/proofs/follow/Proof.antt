@@ -9,7 +9,7 @@ use Rattle.gmp_control.specs.declared.Remembered.{Remembered}
 use Rattle.gmp_control.specs.declared.Remembered.the-variants.{Word}
 use Rattle.gmp_control.specs.Word.{wordBy}
 use Rattle.gmp_control.specs.Pattern.{tableOf}
-use Rattle.gmp_control.specs.Follow.{usable, reading, windowed, foundBy, found}
+use Rattle.gmp_control.specs.Follow.{usable, reached, windowed, foundBy, found}
 use Rattle.gmp_control_read.proofs.follow.Statement.{statement}
 use Rattle.gmp_control_read.proofs.follow.Tie as tie
 
@@ -44,9 +44,9 @@ returns c =
     c .before .before .judge-window .ensures
     ∙ ap (windowed (g .settings))
     (c .before .before .before .read-word .ensures
-    ∙ ap (λ (n : Count). reading t n (c .before .before .before .before .usable-word .result) (c .before .before .before .before .before .before .join .result)) (c .before .before .before .before .before .known-count .ensures)
-    ∙ ap (λ (r : Remembered). reading t (inWindow (g .settings) (g .count)) r (c .before .before .before .before .before .before .join .result)) (c .before .before .before .before .usable-word .ensures)
-    ∙ ap (reading t (inWindow (g .settings) (g .count)) (usable (g .earlier))) word) in
+    ∙ ap (λ (n : Count). reached t n (c .before .before .before .before .usable-word .result) (c .before .before .before .before .before .before .join .result)) (c .before .before .before .before .before .known-count .ensures)
+    ∙ ap (λ (r : Remembered). reached t (inWindow (g .settings) (g .count)) r (c .before .before .before .before .before .before .join .result)) (c .before .before .before .before .usable-word .ensures)
+    ∙ ap (reached t (inWindow (g .settings) (g .count)) (usable (g .earlier))) word) in
     record {
       standing = standing;
       count-is = c .before .found-count .ensures ∙ ap (λ (f : Finding). f .count) standing;

@@ -4,7 +4,7 @@ use Prim.Native.Nat.{ℕ}
 use borrow.Author.Needs.{needs}
 use Rattle.gmp_standing.specs.declared.Count.the-variants.{Known}
 use Rattle.gmp_standing.specs.Standing.{finding, READ}
-use Rattle.gmp_control.specs.Follow.{trackedElsePaired, reading}
+use Rattle.gmp_control.specs.Follow.{trackedElsePaired, reached}
 use Rattle.gmp_control_read.proofs.read_word.Statement.{statement}
 use Rattle.gmp_control_read.proofs.read_word.Tie as tie
 
@@ -15,7 +15,7 @@ count-bits-requires : tie.Need-count-bits-requires
 count-bits-requires c κs = search needs
 
 returns : tie.Need-returns
-unfolding reading
+unfolding reached
 returns c =
     simp (sym (c .before .before .equal-indicators .ensures) ∙ c .before .if1 .taken) (ap (λ (n : ℕ). finding READ (Known n)) (c .count-bits .ensures))
 
@@ -29,7 +29,7 @@ tracked-else-paired-requires : tie.Need-tracked-else-paired-requires
 tracked-else-paired-requires c κs = search needs
 
 returns-2 : tie.Need-returns-2
-unfolding reading
+unfolding reached
 returns-2 c =
     simp (sym (c .before .before .before .before .equal-indicators .ensures) ∙ c .before .before .before .if1 .left) (c .tracked-else-paired .ensures ∙ ap₂ trackedElsePaired (c .before .before .track .ensures) (c .before .pair .ensures))
 

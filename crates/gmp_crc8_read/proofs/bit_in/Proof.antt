@@ -3,7 +3,7 @@ use Prim.Native.Nat.{_/_}
 use native.Mathlib.Omega.{arith}
 use borrow.Author.Needs.{needs}
 use borrow.Author.Tests.{eq-eqb, ne-eqb}
-use Rattle.gmp_crc8.specs.Reading.{bitIn}
+use Rattle.gmp_crc8.specs.Checked.{bitIn}
 use Rattle.gmp_crc8_read.proofs.bit_in.Statement.{statement}
 use Rattle.gmp_crc8_read.proofs.bit_in.Tie as tie
 

@@ -3,7 +3,7 @@ use mathlib.Core.Path.{ap₂}
 use Prim.Native.Nat.{ℕ}
 use lib.Bits.{bitXor}
 use borrow.Author.Needs.{needs}
-use Rattle.gmp_crc8.specs.Reading.{readWord, flipped}
+use Rattle.gmp_crc8.specs.Checked.{readWord, flipped}
 use Rattle.gmp_crc8_read.proofs.flip.Statement.{statement}
 use Rattle.gmp_crc8_read.proofs.flip.Tie as tie
 

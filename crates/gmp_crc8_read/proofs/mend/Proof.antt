@@ -3,8 +3,8 @@ use mathlib.Core.Path.{_∙_, ap}
 use native.Mathlib.Omega.{arith}
 use borrow.Author.Needs.{needs}
 use borrow.Author.Tests.{lt-ltb, le-ltb}
-use Rattle.gmp_crc8.specs.declared.Reading.the-variants.{Mended}
-use Rattle.gmp_crc8.specs.Reading.{flipped, wrongBit, mended}
+use Rattle.gmp_crc8.specs.declared.CheckedWord.the-variants.{Mended}
+use Rattle.gmp_crc8.specs.Checked.{flipped, wrongBit, mended}
 use Rattle.gmp_crc8_read.proofs.mend.Statement.{statement}
 use Rattle.gmp_crc8_read.proofs.mend.Tie as tie
 

@@ -6,7 +6,7 @@ use Rattle.math.specs.Bits.{bits}
 use Rattle.math.proofs.Finite.{agree-below, agree-goal}
 use Rattle.gmp_crc8.specs.Division.{reduce, divide}
 use Rattle.gmp_crc8.specs.Check.{remainder, syndrome}
-use Rattle.gmp_crc8.specs.Reading.{bitIn, oneBit}
+use Rattle.gmp_crc8.specs.Checked.{bitIn, oneBit}
 use Rattle.gmp_crc8_read.proofs.one_bit.Statement.{statement}
 use Rattle.gmp_crc8_read.proofs.one_bit.Tie as tie
 

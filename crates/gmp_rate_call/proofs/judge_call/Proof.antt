@@ -8,8 +8,8 @@ use Rattle.gmp_rate.specs.Rate.{badDivisor, badRate, badRemainder, keeperRefusa
 use Rattle.gmp_rate_call.proofs.judge_call.Statement.{statement}
 use Rattle.gmp_rate_call.proofs.judge_call.Tie as tie
 
-judge-requires : tie.Need-judge-requires
-judge-requires c κs = search needs
+judge-grid-and-window-requires : tie.Need-judge-grid-and-window-requires
+judge-grid-and-window-requires c κs = search needs
 
 is-bad-divisor-requires : tie.Need-is-bad-divisor-requires
 is-bad-divisor-requires c κs = search needs
@@ -36,7 +36,7 @@ returns : tie.Need-returns
 unfolding keeperRefusal
 returns c =
     let g = c .before .before .before .before .before .before .before .before .args in
-    let fit = settings-judged (g .settings) (c .before .before .before .before .before .before .before .judge .ensures) in
+    let fit = settings-judged (g .settings) (c .before .before .before .before .before .before .before .judge-grid-and-window .ensures) in
     let divisor = line fit 3 (badDivisor (g .q)) refl (c .before .before .before .before .before .before .is-bad-divisor .ensures) (c .before .before .before .before .before .refuse-if .ensures) in
     let rate = line divisor 4 (badRate (g .settings) (g .p) (g .q)) refl (c .before .before .before .before .is-bad-rate .ensures) (c .before .before .before .refuse-if2 .ensures) in
     let state = line rate 5 (badRemainder (g .q) (g .r)) refl refl (c .before .before .refuse-if3 .ensures) in
@@ -46,7 +46,7 @@ pub judge-call-spec : {M : Type 1} → statement M
 judge-call-spec =
     tie.close
     (tie.spec
-    judge-requires
+    judge-grid-and-window-requires
     is-bad-divisor-requires
     refuse-if-requires
     is-bad-rate-requires

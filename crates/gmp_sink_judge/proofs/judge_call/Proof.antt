@@ -13,8 +13,8 @@ use Rattle.gmp_sink.specs.Sink.{sinkRefusal}
 use Rattle.gmp_sink_judge.proofs.judge_call.Statement.{statement}
 use Rattle.gmp_sink_judge.proofs.judge_call.Tie as tie
 
-judge-requires : tie.Need-judge-requires
-judge-requires c κs = search needs
+judge-grid-and-window-requires : tie.Need-judge-grid-and-window-requires
+judge-grid-and-window-requires c κs = search needs
 
 frame-length-requires : tie.Need-frame-length-requires
 frame-length-requires c κs = search needs
@@ -44,7 +44,7 @@ returns : tie.Need-returns
 unfolding sinkRefusal
 returns c =
     let g = c .before .before .before .before .before .before .before .before .before .args in
-    let fit = settings-judged (g .settings) (c .before .before .before .before .before .before .before .before .judge .ensures) in
+    let fit = settings-judged (g .settings) (c .before .before .before .before .before .before .before .before .judge-grid-and-window .ensures) in
     let same = ap (λ (n : ℕ). not (eqb (g .frame-length) n)) (c .before .before .before .before .before .before .before .frame-length .ensures) in
     let frame = line fit 8 (not (eqb (g .frame-length) (frameBytes (g .settings .k)))) refl same (c .before .before .before .refuse-if .ensures) in
     let out = line frame 9 (ltb (g .space) (g .settings .hi)) refl refl (c .before .before .refuse-if2 .ensures) in
@@ -55,7 +55,7 @@ pub judge-call-spec : {M : Type 1} → statement M
 judge-call-spec =
     tie.close
     (tie.spec
-    judge-requires
+    judge-grid-and-window-requires
     frame-length-requires
     cast-too-short
     is-bad-port-requires

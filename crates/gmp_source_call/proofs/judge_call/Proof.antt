@@ -13,8 +13,8 @@ use Rattle.gmp_source.proofs.Laws.{state-judged}
 use Rattle.gmp_source_call.proofs.judge_call.Statement.{statement}
 use Rattle.gmp_source_call.proofs.judge_call.Tie as tie
 
-judge-state-requires : tie.Need-judge-state-requires
-judge-state-requires c κs = search needs
+judge-grid-window-and-state-requires : tie.Need-judge-grid-window-and-state-requires
+judge-grid-window-and-state-requires c κs = search needs
 
 is-outside-requires : tie.Need-is-outside-requires
 is-outside-requires c κs = search needs
@@ -44,7 +44,7 @@ returns : tie.Need-returns
 unfolding sourceRefusal
 returns c =
     let g = c .before .before .before .before .before .before .before .before .args in
-    let state = state-judged (g .settings) (g .state .count) (c .before .before .before .before .before .before .before .judge-state .ensures) in
+    let state = state-judged (g .settings) (g .state .count) (c .before .before .before .before .before .before .before .judge-grid-window-and-state .ensures) in
     let count = line state 6 (outside (g .settings) (g .next)) refl (c .before .before .before .before .before .before .is-outside .ensures) (c .before .before .before .before .before .refuse-if .ensures) in
     let client = line count 7 (not (eqb (g .client-length) (g .state .count))) refl refl (c .before .before .before .before .refuse-if2 .ensures) in
     let same = ap (λ (n : ℕ). not (eqb (g .frame-length) n)) (c .before .before .before .frame-length .ensures) in
@@ -55,7 +55,7 @@ pub judge-call-spec : {M : Type 1} → statement M
 judge-call-spec =
     tie.close
     (tie.spec
-    judge-state-requires
+    judge-grid-window-and-state-requires
     is-outside-requires
     refuse-if-requires
     cast-refuse-if

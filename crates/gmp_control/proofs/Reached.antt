@@ -11,8 +11,8 @@ use Rattle.gmp_control.specs.declared.Remembered.{Remembered}
 use Rattle.gmp_control.specs.declared.Remembered.the-variants.{Word, Nothing}
 use Rattle.gmp_control.specs.Word.{countBits, equalIndicators, sign}
 use Rattle.gmp_control.specs.Pattern.{Table, Rule}
-use Rattle.gmp_control.specs.Follow.{tracked, candidate, orElse, paired, fromCount, fromWord, trackedElsePaired, reading}
-use Rattle.gmp_control.proofs.Pairing.{Possible, tracked-true, reached, paired-true, possible-leads}
+use Rattle.gmp_control.specs.Follow.{tracked, candidate, orElse, paired, fromCount, fromWord, trackedElsePaired, reached}
+use Rattle.gmp_control.proofs.Pairing.{Possible, tracked-true, reached-possible, paired-true, possible-leads}
 use Rattle.gmp_control.proofs.Announced.{Plain, Changes, Announces}
 
 -- the count is none, or has the property
@@ -30,18 +30,18 @@ found-tracked-else-paired Unknown (Known n) = refl
 found-tracked-else-paired Unknown Unknown = refl
 
 -- rule 2
-pub reading-plain : (t : Table) (c : Count) (r : Remembered) (w : ℕ) → equalIndicators w ≡ true → reading t c r w ≡ finding READ (Known (countBits w))
-unfolding reading
-reading-plain t c r w e = rw e
+pub reached-plain : (t : Table) (c : Count) (r : Remembered) (w : ℕ) → equalIndicators w ≡ true → reached t c r w ≡ finding READ (Known (countBits w))
+unfolding reached
+reached-plain t c r w e = rw e
 
 -- rule 3
 reading-usable : (t : Table) (c : Count) (r : Remembered) (w : ℕ) → equalIndicators w ≡ false
-    → reading t c r w ≡ trackedElsePaired (fromCount t c w) (fromWord t r w)
-unfolding reading
+    → reached t c r w ≡ trackedElsePaired (fromCount t c w) (fromWord t r w)
+unfolding reached
 reading-usable t c r w e = rw e
 
 pub count-usable : (t : Table) (c : Count) (r : Remembered) (w : ℕ) → equalIndicators w ≡ false
-    → reading t c r w .count ≡ orElse (fromCount t c w) (fromWord t r w)
+    → reached t c r w .count ≡ orElse (fromCount t c w) (fromWord t r w)
 count-usable t c r w e = ap (λ (f : Finding). f .count) (reading-usable t c r w e) ∙ found-tracked-else-paired (fromCount t c w) (fromWord t r w)
 
 -- n is one of the two possible counts of the word w
@@ -55,16 +55,16 @@ module _ (t : Table) (rule : Rule t) where
       rw (h .bits) (tracked-true t rule old (sign w) (h .change) (h .small) (h .of)) ∙ ap Known (sym (h .moves))
 
   -- 1. A sink with the true count reads or tracks the next.
-  pub true-reading : (old next w : ℕ) (r : Remembered) → Announces t old next w
-      → reading t (Known old) r w ≡ finding (cond (equalIndicators w) READ TRACKED) (Known next)
-  true-reading old next w r (inl p) =
-      reading-plain t (Known old) r w (p .equal) ∙ rw (p .equal) (ap (λ (n : ℕ). finding READ (Known n)) (p .count))
-  true-reading old next w r (inr h) =
+  pub reached-true : (old next w : ℕ) (r : Remembered) → Announces t old next w
+      → reached t (Known old) r w ≡ finding (cond (equalIndicators w) READ TRACKED) (Known next)
+  reached-true old next w r (inl p) =
+      reached-plain t (Known old) r w (p .equal) ∙ rw (p .equal) (ap (λ (n : ℕ). finding READ (Known n)) (p .count))
+  reached-true old next w r (inr h) =
       reading-usable t (Known old) r w (h .unequal) ∙ rw (h .unequal) (ap (λ (x : Count). trackedElsePaired x (fromWord t r w)) (from-true old next w h))
 
   -- 2. A word leads any state to none or to one of its possible counts.
   tracked-possible : (c w : ℕ) (x : Count) → tracked t c (countBits w) (sign w) ≡ x → NoneOr (PossibleOf t w) x
-  tracked-possible c w (Known n) e = reached t rule c (countBits w) (sign w) n e
+  tracked-possible c w (Known n) e = reached-possible t rule c (countBits w) (sign w) n e
   tracked-possible c w Unknown e = tt
 
   count-possible : (c : Count) (w : ℕ) → NoneOr (PossibleOf t w) (fromCount t c w)
@@ -79,8 +79,8 @@ module _ (t : Table) (rule : Rule t) where
       (tracked-possible _ w _ refl) (tracked-possible _ w _ refl)
   word-possible Nothing w = tt
 
-  pub any-reading : (c : Count) (r : Remembered) (w : ℕ) → equalIndicators w ≡ false → NoneOr (PossibleOf t w) (reading t c r w .count)
-  any-reading c r w e =
+  pub reached-any : (c : Count) (r : Remembered) (w : ℕ) → equalIndicators w ≡ false → NoneOr (PossibleOf t w) (reached t c r w .count)
+  reached-any c r w e =
       subst⁻¹ (NoneOr (PossibleOf t w)) (count-usable t c r w e)
       (orElse-keeps (PossibleOf t w) (fromCount t c w) (fromWord t r w) (count-possible c w) (word-possible r w))
 
@@ -99,7 +99,7 @@ module _ (t : Table) (rule : Rule t) where
         (subst (λ (b : ℕ). Possible t b (sign v) c) (g .bits) p))
 
     -- also beside any of the possible counts of the first.
-    pub second-reading : (c : Count) → NoneOr (PossibleOf t v) c → reading t c (Word v) w .count ≡ Known next
+    pub second-reading : (c : Count) → NoneOr (PossibleOf t v) c → reached t c (Word v) w .count ≡ Known next
     second-reading (Known c) p =
         count-usable t (Known c) (Word v) w (h .unequal)
         ∙ ⊎-elim (λ e. ap (λ (x : Count). orElse x (fromWord t (Word v) w)) e ∙ word-true)

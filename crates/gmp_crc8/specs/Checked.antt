@@ -4,8 +4,8 @@ use Prim.Native.Nat.{ℕ, zero, suc, _/_, _%_, _^_}
 use lib.Bits.{bitXor}
 use lib.Dec.{eqb, ltb}
 use Rattle.gmp_crc8.specs.declared.ReadWord.{ReadWord}
-use Rattle.gmp_crc8.specs.declared.Reading.{Reading}
-use Rattle.gmp_crc8.specs.declared.Reading.the-variants.{Whole, Mended, Bad}
+use Rattle.gmp_crc8.specs.declared.CheckedWord.{CheckedWord}
+use Rattle.gmp_crc8.specs.declared.CheckedWord.the-variants.{Whole, Mended, Bad}
 use Rattle.gmp_crc8.specs.Check.{passes, syndrome}
 
 abbrev pub readWord : ℕ → ℕ → ReadWord
@@ -35,10 +35,10 @@ unfoldable pub wrongBit : ℕ → ℕ
 wrongBit r = firstWith r 24 0
 
 -- "has that bit flipped before reading .. Any other remainder but zero stays BADCHECK."
-unfoldable pub mended : ℕ → ℕ → ℕ → Reading
+unfoldable pub mended : ℕ → ℕ → ℕ → CheckedWord
 mended jc1 jc2 r = cond (ltb (wrongBit r) 24) (Mended (flipped jc1 jc2 (wrongBit r))) Bad
 
 -- what the three bytes read as; mending is "A new setting"
-unfoldable pub readAs : Bool → ℕ → ℕ → ℕ → Reading
-readAs mending jc1 jc2 jc3 =
+unfoldable pub checkedWord : Bool → ℕ → ℕ → ℕ → CheckedWord
+checkedWord mending jc1 jc2 jc3 =
     cond (passes jc1 jc2 jc3) (Whole (readWord jc1 jc2)) (cond mending (mended jc1 jc2 (syndrome jc1 jc2 jc3)) Bad)

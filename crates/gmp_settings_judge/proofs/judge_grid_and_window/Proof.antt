@@ -4,8 +4,8 @@ use mathlib.Core.List.{[]}
 use borrow.Author.Needs.{needs}
 use Rattle.refusals.proofs.Laws.{Judged, line}
 use Rattle.gmp_settings.specs.Settings.{badGrid, badWindow}
-use Rattle.gmp_settings_judge.proofs.judge.Statement.{statement}
-use Rattle.gmp_settings_judge.proofs.judge.Tie as tie
+use Rattle.gmp_settings_judge.proofs.judge_grid_and_window.Statement.{statement}
+use Rattle.gmp_settings_judge.proofs.judge_grid_and_window.Tie as tie
 
 is-bad-grid-requires : tie.Need-is-bad-grid-requires
 is-bad-grid-requires c κs = search needs
@@ -26,8 +26,8 @@ returns c =
     let grid = line nothing 1 (badGrid s) refl (c .before .before .before .is-bad-grid .ensures) (c .before .refuse-if .ensures) in
     line grid 2 (badWindow s) refl (c .before .before .is-bad-window .ensures) (c .refuse-if2 .ensures) .by
 
-pub judge-spec : {M : Type 1} → statement M
-judge-spec =
+pub judge-grid-and-window-spec : {M : Type 1} → statement M
+judge-grid-and-window-spec =
     tie.close
     (tie.spec
     is-bad-grid-requires
