@@ -1,6 +1,6 @@
--- Observed calls, worked: that such lists of calls there are, and how many bytes those of a sink say
--- to hand out. A source and two sinks of one card go on the grid K = 2, as in `claim_worked`, with
--- refused calls among theirs. Assumes nothing.
+-- Observed calls, worked: that such lists of calls there are, and how many bytes those of a sink
+-- say to hand out. A source and two sinks of one card go on the grid K = 2, as in `claim_worked`,
+-- with refused calls among theirs. Assumes nothing.
 use mathlib.Core.Path.{_≡_}
 use mathlib.Core.Bool.{cond}
 use mathlib.Core.List.{List, [], _∷_}

@@ -187,9 +187,9 @@ NoFalseCount mending most =
     → NotFalse (sourceSteps source calls) n reader
 
 -- Demand 3: 01's two claims as 02 has them. Of the first P4 says when the bytes come with the type
--- check on. The second goes by the budget of the check: three wrong bits, as in 01; and with mending
--- on P1: "the guarantee against false counts covers two wrong bits a frame, no longer three;
--- recovery after two unharmed frames is as before".
+-- check on. The second goes by the budget of the check: three wrong bits, as in 01; and with
+-- mending on P1: "the guarantee against false counts covers two wrong bits a frame, no longer
+-- three; recovery after two unharmed frames is as before".
 pub record Demand3 : Type 0 where
   pub recovery : Recovery
   pub typed-recovery : TypedRecovery

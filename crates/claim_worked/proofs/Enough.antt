@@ -65,6 +65,7 @@ enough =
       two-bits = demand .no-false-count true;
       one-told = told-with 1 _ refl;
       none-told = told-with 0 _ refl;
+      opu0-run = λ C a L le run. let e = opu0-run C a L le run in (e .above, e .below);
       exact-run = λ a run. let e = opu0-run 14408 a 1904 (lit≤ tt) run in omega (arith, e .above, e .below);
       card-run = λ a run. let e = opu0-run 14407 a 1000 (lit≤ tt) run in (omega (arith, e .below), omega (arith, e .above));
     }

@@ -4,7 +4,7 @@
 use mathlib.Core.Path.{_≡_}
 use mathlib.Core.Bool.{Bool, true, false}
 use mathlib.Core.List.{List, []}
-use Prim.Native.Nat.{ℕ, _+_, _-_, _≤_}
+use Prim.Native.Nat.{ℕ, _+_, _-_, _*_, _≤_, _<_}
 use lib.ListN.{length}
 use Rattle.gmp_settings.specs.declared.Settings.{Settings}
 use Rattle.gmp_standing.specs.declared.Count.the-variants.{Known}
@@ -71,8 +71,8 @@ SawTwice z k = z .types .seen ≡ Twice k
 abbrev pub HadAccepted : SinkState → ℕ → Type 0
 HadAccepted z k = z .types .accepted ≡ PayloadType k
 
--- With mending on, a sink in step that reads frames with at most one wrong control bit: its call for
--- frame i delivers it, the sink holds its count then, and with so many wrong bits it is told as
+-- With mending on, a sink in step that reads frames with at most one wrong control bit: its call
+-- for frame i delivers it, the sink holds its count then, and with so many wrong bits it is told as
 -- mended, or not.
 pub record Told (s : Settings) (sent : List SourceStep) (m i : ℕ) (z : SinkState) (reader : List SinkCall) (wrong : ℕ) (mended : Bool) : Type 0 where
   pub frame : SourceStep
@@ -109,8 +109,11 @@ pub record Enough : Type 0 where
   -- a frame with one wrong control bit is told as mended, one with none is not
   pub one-told : ToldWith 1 true
   pub none-told : ToldWith 0 false
-  -- in an OPU0 frame of the count 14,408 any 1,904 successive payload bytes carry 1,801 client bytes,
-  -- no more and no less: 1,904 × 14,408 / 15,232 is a whole number
+  -- of any run of an OPU0 frame 15,232 × the client bytes is less than 15,232 from L × C
+  pub opu0-run : (C a L : ℕ) → C ≤ 15232 → a + L ≤ 15232
+      → (15232 * placesIn C 15232 a L < L * C + 15232) × (L * C < 15232 * placesIn C 15232 a L + 15232)
+  -- with the count 14,408 any 1,904 successive payload bytes carry 1,801 client bytes, no more and
+  -- no less: 1,904 × 14,408 / 15,232 is a whole number
   pub exact-run : (a : ℕ) → a + 1904 ≤ 15232 → placesIn 14408 15232 a 1904 ≡ 1801
   -- with the count 14,407 any 1,000 carry 945 or 946 (CARD.md)
   pub card-run : (a : ℕ) → a + 1000 ≤ 15232 → (945 ≤ placesIn 14407 15232 a 1000) × (placesIn 14407 15232 a 1000 ≤ 946)

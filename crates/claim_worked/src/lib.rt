@@ -48,9 +48,10 @@ pub fn no_less()
     ensures { λ _. ⌜ NoLess ⌝ }
 {}
 
-// The claims with their numbers written out. Two unharmed frames bring one sink back from any state.
-// With the type check on the bytes come behind the third frame numbered 0, those that came before
-// counted. A mended frame is told as mended, and runs of an OPU0 frame carry so many client bytes.
+// The claims with their numbers written out. Two unharmed frames bring one sink back from any
+// state. With the type check on the bytes come behind the third frame numbered 0, those that came
+// before counted. A mended frame is told as mended, and runs of an OPU0 frame carry so many client
+// bytes.
 pub fn is_enough()
     ensures { λ _. ⌜ Enough ⌝ }
 {}
