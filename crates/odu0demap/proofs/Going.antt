@@ -3,10 +3,10 @@ use mathlib.Core.Path.{_≡_, refl, sym, ap, ap₂, subst, _∙_}
 use mathlib.Core.Bool.{Bool, true, false, _&&_}
 use mathlib.Core.Logic.{_⊎_, ⊎-elim}
 use mathlib.Core.List.{List, [], _∷_, _++_, foldl-append, append-assoc, append-nil}
-use Prim.Native.Nat.{ℕ, _+_, _-_, _*_, _≤_, _<_}
+use Prim.Native.Nat.{ℕ, zero, suc, _+_, _-_, _*_, _≤_, _<_}
 use native.Mathlib.Numerals.{add-one}
 use native.Mathlib.Omega.{arith}
-use lib.ListN.{length, take, drop}
+use lib.ListN.{length, take, drop, length-append}
 use lib.Seq.{length-take-le}
 use borrow.Rule.Slice.PartMut.{putMid, mid-len, same-len-mid}
 use Rattle.io.specs.Counts.{Counts}
@@ -14,8 +14,10 @@ use Rattle.math.specs.Choice.{both-true}
 use Rattle.gmp_standing.specs.Standing.{Finding, standingMeaning}
 use Rattle.gmp_sink.specs.Sink.{mendedIn}
 use Rattle.program_stream.specs.declared.Held.{Held}
-use Rattle.program_stream.specs.Gather.{heldBytes, Has}
-use Rattle.program_stream.proofs.Laws.{held-length, held-behind, put-behind}
+use Rattle.program_stream.specs.declared.Stop.{Stop}
+use Rattle.program_stream.specs.declared.End.the-variants.{Stopped as StoppedRun, Full}
+use Rattle.program_stream.specs.Gather.{heldBytes, Has, Stops}
+use Rattle.program_stream.proofs.Laws.{held-length, held-behind, put-behind, unwritten-stops, stop-ends}
 use Rattle.program_demap.specs.declared.Wanted.{Wanted}
 use Rattle.program_demap.specs.declared.Demapper.{Demapper}
 use Rattle.program_demap.specs.declared.Taken.{Taken}
@@ -23,10 +25,10 @@ use Rattle.odu0demap.specs.declared.Told.{Told}
 use Rattle.odu0demap.specs.declared.Told.the-variants.{Nothing, Last}
 use Rattle.odu0demap.specs.declared.Run.{Run}
 use Rattle.odu0demap.specs.declared.Next.{Next}
-use Rattle.odu0demap.specs.declared.Next.the-variants.{From, End}
+use Rattle.odu0demap.specs.declared.Next.the-variants.{From, Stopped}
 use Rattle.program_demap.specs.Frames.{settingsOf, control, standingOf, newDemapper, demapperAfter, handedBytes, Takes}
 use Rattle.program_told.specs.Told.{isQuiet, quiet}
-use Rattle.odu0demap.specs.Demapping.{frameAt, framesIn, demapperOver, handedOver, allQuiet, Telling, Runs, TakesFrames, Goes, GoesOn, DemapsAll}
+use Rattle.odu0demap.specs.Demapping.{frameAt, framesIn, demapperOver, handedOver, allQuiet, Telling, Runs, TakesFrames, Goes, GoesOn, Demaps, DemapsAll}
 
 -- one frame more
 frames-next : (n : ℕ) (bytes : List ℕ) → framesIn (n + 1) bytes ≡ framesIn n bytes ++ (frameAt n bytes ∷ [])
@@ -170,12 +172,34 @@ goes-held w d h block r out has p behind e =
 -- behind what was held before
 pub goes-on : (w : Wanted) (d : Demapper) (old bytes block : List ℕ) (r : Next) → take (length old) bytes ≡ old → Goes w d bytes r block → GoesOn w d old r block
 goes-on w d old bytes block (From r n h) e p = (bytes, e, p)
-goes-on w d old bytes block End e p = tt
+goes-on w d old bytes block (Stopped s) e p = unwritten-stops old 15240 s block p
 
--- a demapper that has come so far, and what it comes to with some frames more
-pub all-start : (w : Wanted) (r : Demapper) → r ≡ newDemapper → DemapsAll w r
-all-start w r e = ([], e)
+-- A demapper that has come so far, over so many frames from a new one on.
+pub record Along (w : Wanted) (d : Demapper) (taken : ℕ) : Type 0 where
+  pub frames : List (List ℕ)
+  pub over : Demaps w d frames
+  pub number : length frames ≡ taken
 
-pub all-next : (w : Wanted) (d : Demapper) → DemapsAll w d → (bytes : List ℕ) (r : Demapper) (n : ℕ) (behind : List ℕ) → TakesFrames w d bytes r n behind → DemapsAll w r
-all-next w d a bytes r n behind p =
-    (a .0 ++ framesIn n bytes, p .after ∙ ap (λ (x : Demapper). demapperOver w x (framesIn n bytes)) (a .1) ∙ sym (foldl-append (demapperAfter w) newDemapper (a .0) (framesIn n bytes)))
+pub along-start : (w : Wanted) (r : Demapper) → r ≡ newDemapper → Along w r 0
+along-start w r e = record { frames = []; over = e; number = refl }
+
+frames-length : (n : ℕ) (bytes : List ℕ) → length (framesIn n bytes) ≡ n
+unfolding framesIn
+frames-length zero bytes = refl
+frames-length (suc n) bytes = length-append (framesIn n bytes) (frameAt n bytes ∷ []) ∙ ap (λ (i : ℕ). i + 1) (frames-length n bytes) ∙ add-one n
+
+pub along-next : (w : Wanted) (d : Demapper) (taken : ℕ) → Along w d taken → (bytes : List ℕ) (r : Demapper) (n : ℕ) (behind : List ℕ) → TakesFrames w d bytes r n behind → Along w r (taken + n)
+along-next w d taken a bytes r n behind p =
+    record {
+      frames = a .frames ++ framesIn n bytes;
+      over = p .after ∙ ap (λ (x : Demapper). demapperOver w x (framesIn n bytes)) (a .over) ∙ sym (foldl-append (demapperAfter w) newDemapper (a .frames) (framesIn n bytes));
+      number = omega (arith, length-append (a .frames) (framesIn n bytes), a .number, frames-length n bytes);
+    }
+
+-- its end: a stop, or as many frames as can be counted
+pub run-stopped : (w : Wanted) (d : Demapper) (taken : ℕ) → Along w d taken → (old block : List ℕ) (s : Stop) → Stops old 15240 (s .why) block
+    → DemapsAll w (record { demapper = d; end = StoppedRun s })
+run-stopped w d taken a old block s p = record { frames = a .frames; demapper = a .over; ends = stop-ends old 15240 (s .why) block p }
+
+pub run-full : (w : Wanted) (d : Demapper) (taken : ℕ) → Along w d taken → 18446744073709551599 ≤ taken → DemapsAll w (record { demapper = d; end = Full })
+run-full w d taken a h = record { frames = a .frames; demapper = a .over; ends = omega (arith, a .number) }

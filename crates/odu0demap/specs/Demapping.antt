@@ -14,20 +14,28 @@ use Rattle.program_demap.specs.declared.Wanted.{Wanted}
 use Rattle.program_demap.specs.declared.Demapper.{Demapper}
 use Rattle.program_demap.specs.Frames.{settingsOf, control, standingOf, handedBytes, newDemapper, demapperAfter}
 use Rattle.program_told.specs.Told.{quiet}
-use Rattle.program_stream.specs.Gather.{heldBytes}
+use Rattle.program_stream.specs.Gather.{heldBytes, IsUnwritten, Stops, Ends}
 use Rattle.odu0demap.specs.declared.Run.{Run}
 use Rattle.odu0demap.specs.declared.Told.{Told}
 use Rattle.odu0demap.specs.declared.Told.the-variants.{Nothing, Last}
 use Rattle.odu0demap.specs.declared.Next.{Next}
-use Rattle.odu0demap.specs.declared.Next.the-variants.{From, End}
+use Rattle.odu0demap.specs.declared.Next.the-variants.{From, Stopped}
+use Rattle.odu0demap.specs.declared.Demapped.{Demapped}
 
 -- an argument of these four letters
 abbrev pub isWord : ℕ → ℕ → ℕ → ℕ → List ℕ → Bool
 isWord a b c d text = eqb (length text) 4 && (eqb (getD text 0 0) a && (eqb (getD text 1 0) b && (eqb (getD text 2 0) c && eqb (getD text 3 0) d)))
 
 -- all frames: the demapper at the end is a new one after some frames, each once and in order
-abbrev pub DemapsAll : Wanted → Demapper → Type 0
-DemapsAll w r = (frames : List (List ℕ)) × (r ≡ foldl (demapperAfter w) newDemapper frames)
+abbrev pub Demaps : Wanted → Demapper → List (List ℕ) → Type 0
+Demaps w d frames = d ≡ foldl (demapperAfter w) newDemapper frames
+
+-- And why the run ended: the input did, with less than a frame left, a read or a write failed, or
+-- there are 2^64 - 17 frames or more.
+pub record DemapsAll (w : Wanted) (r : Demapped) : Type 0 where
+  pub frames : List (List ℕ)
+  pub demapper : Demaps w (r .demapper) frames
+  pub ends : Ends 18446744073709551599 (length frames) 15240 (r .end)
 
 -- the frame behind the first n frames of some bytes, and these n
 abbrev pub frameAt : ℕ → List ℕ → List ℕ
@@ -76,7 +84,7 @@ pub record Runs (w : Wanted) (d : Demapper) (bytes : List ℕ) (r : Run) (out : 
   pub told : Telling w d bytes (r .frames) (r .before) (r .told)
 
 -- What is gone on from, where these bytes were held: one frame or more is taken, and the bytes
--- behind are held on.
+-- behind are held on. Or a write failed.
 pub record TakesFrames (w : Wanted) (d : Demapper) (bytes : List ℕ) (r : Demapper) (n : ℕ) (behind : List ℕ) : Type 0 where
   pub some : 0 < n
   pub few : n ≤ 16
@@ -86,9 +94,10 @@ pub record TakesFrames (w : Wanted) (d : Demapper) (bytes : List ℕ) (r : Demap
 
 abbrev pub Goes : Wanted → Demapper → List ℕ → Next → List ℕ → Type 0
 Goes w d bytes (From r n h) block = TakesFrames w d bytes r n (heldBytes h block)
-Goes w d bytes End block = Unit
+Goes w d bytes (Stopped s) block = IsUnwritten s
 
--- and where more is read: the bytes begin with those that were held before
+-- and where more is read: the bytes begin with those that were held before. Or there is a stop, at
+-- the input's end with less than a frame left.
 abbrev pub GoesOn : Wanted → Demapper → List ℕ → Next → List ℕ → Type 0
 GoesOn w d old (From r n h) block = (bytes : List ℕ) × (take (length old) bytes ≡ old) × Goes w d bytes (From r n h) block
-GoesOn w d old End block = Unit
+GoesOn w d old (Stopped s) block = Stops old 15240 (s .why) block
