@@ -29,7 +29,7 @@ sub-loop : tie.Need-sub-loop Inv-loop μ-loop
 sub-loop c = search needs
 
 take-next-requires : tie.Need-take-next-requires Inv-loop μ-loop
-take-next-requires c κs = (c .before .before .loop-test .taken, c .before .before .before .loop .inv .1, c .before .before .before .loop .inv .2)
+take-next-requires c κs = (omega (arith, c .before .before .loop-test .taken), c .before .before .before .loop .inv .1, c .before .before .before .loop .inv .2)
 
 enum-known-next : tie.Need-enum-known-next Inv-loop μ-loop
 enum-known-next c = search needs

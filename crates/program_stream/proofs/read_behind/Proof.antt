@@ -2,7 +2,7 @@
 -- with each read. Assumes nothing.
 use mathlib.Core.Path.{_≡_, refl}
 use mathlib.Core.Logic.{inl, inr}
-use Prim.Native.Nat.{_+_, _-_, _<_}
+use Prim.Native.Nat.{_-_, _<_}
 use native.Mathlib.Omega.{arith}
 use lib.ListN.{length, take}
 use borrow.Author.Needs.{needs}
@@ -58,8 +58,7 @@ ended-requires : tie.Need-ended-requires Inv-loop μ-loop
 ended-requires c κs =
     let l = c .before .before .before .before .before .before .before .before .before .before .before .before .loop in
     let room : 0 < length (c .before .before .before .before .before .before .before .read .last .1 .0) = search needs in
-    let behind : l .end + length (c .before .before .before .before .before .before .before .read .last .1 .0) ≡ length (c .before .before .before .before .before .before .before .before .before .before .before .before .before .before .before .args .block .now) = search needs in
-    (room, behind, gave-none _ (length (c .before .before .before .before .before .before .before .read .last .1 .0)) (c .before .before .count .result) _ (c .before .before .before .before .if2 .left) refl (c .before .before .count .ensures .1) (c .before .if3 .taken) room)
+    (room, search needs, gave-none _ (length (c .before .before .before .before .before .before .before .read .last .1 .0)) (c .before .before .count .result) _ (c .before .before .before .before .if2 .left) refl (c .before .before .count .ensures .1) (c .before .if3 .taken) room)
 
 same-length-3 : tie.Need-same-length-3 Inv-loop μ-loop
 same-length-3 c = search needs
