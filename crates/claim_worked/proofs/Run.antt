@@ -117,57 +117,57 @@ not-from-second h =
 
 -- Wrong control bits make a false count: 00 00 00 is lent as 00 10 D0, which passes, with four; and
 -- with mending on as 00 10 C0, which is mended to it, with three.
-abbrev quiet : SourceState
-quiet = record { count = 0; multiframe = 0; «payload_type» = 0 }
+abbrev zeroSource : SourceState
+zeroSource = record { count = 0; multiframe = 0; «payload_type» = 0 }
 
 abbrev with-flag : Bool → Settings
 with-flag mending = withMending small mending
 
-abbrev silence : Bool → List SourceCall
-silence mending = send (with-flag mending) 0 [] ∷ []
+abbrev zeros : Bool → List SourceCall
+zeros mending = send (with-flag mending) 0 [] ∷ []
 
 abbrev harmed : ℕ → List ℕ
 harmed jc3 = 0 ∷ 0 ∷ 0 ∷ 0 ∷ 0 ∷ 16 ∷ 0 ∷ 0 ∷ 0 ∷ jc3 ∷ 0 ∷ 0 ∷ 0 ∷ 0 ∷ 0 ∷ 0 ∷ []
 
-abbrev deceived : Bool → List SinkCall
-deceived true = lend (with-flag true) (harmed 0xC0) tt room ∷ []
-deceived false = lend (with-flag false) (harmed 0xD0) tt room ∷ []
+abbrev readFalse : Bool → List SinkCall
+readFalse true = lend (with-flag true) (harmed 0xC0) tt room ∷ []
+readFalse false = lend (with-flag false) (harmed 0xD0) tt room ∷ []
 
-quiet-run : (mending : Bool) → SourceRun (with-flag mending) quiet (silence mending)
+zeros-run : (mending : Bool) → SourceRun (with-flag mending) zeroSource (zeros mending)
 unfolding sourceSteps sinkSteps sinkEnd sourceRefusal sourceState sourceFrame newSource startRefusal written controlBytes announced frame row tabulate placed places remainder divide reduce bits outside sinkRefusal sinkAnswer sinkState sinkHanded sinkOut released gateOpen typesAfter judged handed standingAfter stateAfter controlOf foundBy reached inWindow usable tracked candidate paired equalIndicators passes checkedWord mended wrongBit firstWith oneBit syndrome clientBytes chosen payload columns word differing xor tableOf psiOf bitIn flipped wrongBits
-quiet-run mending =
+zeros-run mending =
     record {
       made-with = with-flag mending;
       first = 0;
       payload-type = 0;
       made = refl;
-      shared = all-nth (λ (x : SourceStep). x .call .settings ≡ with-flag mending) (sourceSteps quiet (silence mending)) (refl, tt);
+      shared = all-nth (λ (x : SourceStep). x .call .settings ≡ with-flag mending) (sourceSteps zeroSource (zeros mending)) (refl, tt);
     }
 
 reads-harmed : (mending : Bool)
-    → Reads (with-flag mending) (sourceSteps quiet (silence mending)) (AtMostWrong (budget mending + 1) (with-flag mending)) 1 1 newSink (deceived mending)
+    → Reads (with-flag mending) (sourceSteps zeroSource (zeros mending)) (AtMostWrong (budget mending + 1) (with-flag mending)) 1 1 newSink (readFalse mending)
 unfolding sourceSteps sinkSteps sinkEnd sourceRefusal sourceState sourceFrame newSource startRefusal written controlBytes announced frame row tabulate placed places remainder divide reduce bits outside sinkRefusal sinkAnswer sinkState sinkHanded sinkOut released gateOpen typesAfter judged handed standingAfter stateAfter controlOf foundBy reached inWindow usable tracked candidate paired equalIndicators passes checkedWord mended wrongBit firstWith oneBit syndrome clientBytes chosen payload columns word differing xor tableOf psiOf bitIn flipped wrongBits
 reads-harmed true =
-    reads-by (with-flag true) (sourceSteps quiet (silence true)) (AtMostWrong (budget true + 1) (with-flag true)) 1 1 newSink (deceived true) (lit≤ tt) (refl, tt) (lit≤ tt, tt) refl
+    reads-by (with-flag true) (sourceSteps zeroSource (zeros true)) (AtMostWrong (budget true + 1) (with-flag true)) 1 1 newSink (readFalse true) (lit≤ tt) (refl, tt) (lit≤ tt, tt) refl
 reads-harmed false =
-    reads-by (with-flag false) (sourceSteps quiet (silence false)) (AtMostWrong (budget false + 1) (with-flag false)) 1 1 newSink (deceived false) (lit≤ tt) (refl, tt) (lit≤ tt, tt) refl
+    reads-by (with-flag false) (sourceSteps zeroSource (zeros false)) (AtMostWrong (budget false + 1) (with-flag false)) 1 1 newSink (readFalse false) (lit≤ tt) (refl, tt) (lit≤ tt, tt) refl
 
-false-count : (mending : Bool) → sinkEnd newSink (deceived mending) .count ≡ Known 4
+false-count : (mending : Bool) → sinkEnd newSink (readFalse mending) .count ≡ Known 4
 unfolding sourceSteps sinkSteps sinkEnd sourceRefusal sourceState sourceFrame newSource startRefusal written controlBytes announced frame row tabulate placed places remainder divide reduce bits outside sinkRefusal sinkAnswer sinkState sinkHanded sinkOut released gateOpen typesAfter judged handed standingAfter stateAfter controlOf foundBy reached inWindow usable tracked candidate paired equalIndicators passes checkedWord mended wrongBit firstWith oneBit syndrome clientBytes chosen payload columns word differing xor tableOf psiOf bitIn flipped wrongBits
 false-count true = refl
 false-count false = refl
 
-count-zero : (mending : Bool) (x : SourceStep) → Nth (sourceSteps quiet (silence mending)) 1 x → countOf x ≡ 0
+count-zero : (mending : Bool) (x : SourceStep) → Nth (sourceSteps zeroSource (zeros mending)) 1 x → countOf x ≡ 0
 unfolding sourceSteps sinkSteps sinkEnd sourceRefusal sourceState sourceFrame newSource startRefusal written controlBytes announced frame row tabulate placed places remainder divide reduce bits outside sinkRefusal sinkAnswer sinkState sinkHanded sinkOut released gateOpen typesAfter judged handed standingAfter stateAfter controlOf foundBy reached inWindow usable tracked candidate paired equalIndicators passes checkedWord mended wrongBit firstWith oneBit syndrome clientBytes chosen payload columns word differing xor tableOf psiOf bitIn flipped wrongBits
 count-zero mending x e = ap countOf (sym e)
 
 not-with-more : (mending : Bool) → NoFalseCount mending (budget mending + 1) → ⊥
-not-with-more mending h = ⊎-elim none some (h (with-flag mending) refl quiet (silence mending) (quiet-run mending) 1 1 (deceived mending) (reads-harmed mending) .count)
+not-with-more mending h = ⊎-elim none some (h (with-flag mending) refl zeroSource (zeros mending) (zeros-run mending) 1 1 (readFalse mending) (reads-harmed mending) .count)
   where
-    none : sinkEnd newSink (deceived mending) .count ≡ Unknown → ⊥
+    none : sinkEnd newSink (readFalse mending) .count ≡ Unknown → ⊥
     none e = let f = false-count mending in let z : _≡_ {A = ℕ} 0 1 = cc in omega arith
 
-    some : (x : SourceStep) × Nth (sourceSteps quiet (silence mending)) 1 x × (sinkEnd newSink (deceived mending) .count ≡ Known (countOf x)) → ⊥
+    some : (x : SourceStep) × Nth (sourceSteps zeroSource (zeros mending)) 1 x × (sinkEnd newSink (readFalse mending) .count ≡ Known (countOf x)) → ⊥
     some w =
         let f = false-count mending in
         let g = count-zero mending (w .0) (w .1) in

@@ -3,10 +3,10 @@ use mathlib.Core.Path.{_≡_, refl, sym, ap, ap₂, subst, _∙_}
 use mathlib.Core.Bool.{Bool, true, false, _&&_}
 use mathlib.Core.Logic.{_⊎_, ⊎-elim}
 use mathlib.Core.List.{List, [], _∷_, _++_, foldl-append, append-assoc, append-nil}
-use Prim.Native.Nat.{ℕ, _+_, _-_, _*_, _≤_, _<_}
+use Prim.Native.Nat.{ℕ, zero, suc, _+_, _-_, _*_, _≤_, _<_}
 use native.Mathlib.Numerals.{add-one}
 use native.Mathlib.Omega.{arith}
-use lib.ListN.{length, take, drop}
+use lib.ListN.{length, take, drop, length-append}
 use lib.Seq.{length-take-le}
 use borrow.Rule.Slice.PartMut.{putMid, mid-len, same-len-mid}
 use Rattle.io.specs.Counts.{Counts}
@@ -14,8 +14,10 @@ use Rattle.math.proofs.Choice.{both-true}
 use Rattle.gmp_standing.specs.Standing.{Finding, standingMeaning}
 use Rattle.gmp_sink.specs.Sink.{mendedIn}
 use Rattle.program_stream.specs.declared.Held.{Held}
-use Rattle.program_stream.specs.Gather.{heldBytes, Has}
-use Rattle.program_stream.proofs.Laws.{held-length, held-behind, put-behind}
+use Rattle.program_stream.specs.declared.Stop.{Stop}
+use Rattle.program_stream.specs.declared.End.the-variants.{Stopped as StoppedRun, Full}
+use Rattle.program_stream.specs.Gather.{heldBytes, Has, Stops}
+use Rattle.program_stream.proofs.Laws.{held-length, held-behind, put-behind, unwritten-stops, stop-ends}
 use Rattle.program_demap.specs.declared.Wanted.{Wanted}
 use Rattle.program_demap.specs.declared.Demapper.{Demapper}
 use Rattle.program_demap.specs.declared.Taken.{Taken}
@@ -23,10 +25,10 @@ use Rattle.odu0demap.specs.declared.Told.{Told}
 use Rattle.odu0demap.specs.declared.Told.the-variants.{Nothing, Last}
 use Rattle.odu0demap.specs.declared.Run.{Run}
 use Rattle.odu0demap.specs.declared.Next.{Next}
-use Rattle.odu0demap.specs.declared.Next.the-variants.{From, End}
+use Rattle.odu0demap.specs.declared.Next.the-variants.{From, Stopped}
 use Rattle.program_demap.specs.Frames.{settingsOf, control, standingOf, newDemapper, demapperAfter, handedBytes, Takes}
-use Rattle.program_told.specs.Told.{isQuiet, quiet}
-use Rattle.odu0demap.specs.Demapping.{frameAt, framesIn, demapperOver, handedOver, allQuiet, Telling, Runs, TakesFrames, Goes, GoesOn, DemapsAll}
+use Rattle.program_told.specs.Told.{nothingToTellBy, nothingToTell}
+use Rattle.odu0demap.specs.Demapping.{frameAt, framesIn, demapperOver, handedOver, nothingToTellOf, Telling, Runs, TakesFrames, Goes, GoesOn, Demaps, DemapsAll}
 
 -- one frame more
 frames-next : (n : ℕ) (bytes : List ℕ) → framesIn (n + 1) bytes ≡ framesIn n bytes ++ (frameAt n bytes ∷ [])
@@ -39,13 +41,13 @@ handed-next w d [] f = append-nil (handedBytes w d f)
 handed-next w d (g ∷ fs) f =
     ap (λ (x : List ℕ). handedBytes w d g ++ x) (handed-next w (demapperAfter w d g) fs f) ∙ sym (append-assoc (handedBytes w d g) _ _)
 
-quiet-next : (w : Wanted) (d : Demapper) (fs : List (List ℕ)) (f : List ℕ) → allQuiet w d fs ≡ true → quiet w (demapperOver w d fs) f ≡ true
-    → allQuiet w d (fs ++ (f ∷ [])) ≡ true
-unfolding allQuiet
-quiet-next w d [] f e q = rw q
-quiet-next w d (g ∷ fs) f e q =
-    let b = both-true (quiet w d g) (allQuiet w (demapperAfter w d g) fs) e in
-    ap₂ (λ (x y : Bool). x && y) (b .0) (quiet-next w (demapperAfter w d g) fs f (b .1) q)
+nothing-next : (w : Wanted) (d : Demapper) (fs : List (List ℕ)) (f : List ℕ) → nothingToTellOf w d fs ≡ true → nothingToTell w (demapperOver w d fs) f ≡ true
+    → nothingToTellOf w d (fs ++ (f ∷ [])) ≡ true
+unfolding nothingToTellOf
+nothing-next w d [] f e q = rw q
+nothing-next w d (g ∷ fs) f e q =
+    let b = both-true (nothingToTell w d g) (nothingToTellOf w (demapperAfter w d g) fs) e in
+    ap₂ (λ (x y : Bool). x && y) (b .0) (nothing-next w (demapperAfter w d g) fs f (b .1) q)
 
 -- So many frames are taken, of which nothing is to be told, and their client bytes stand in order
 -- at the start of the output buffer.
@@ -56,10 +58,10 @@ pub record Running (w : Wanted) (d : Demapper) (bytes : List ℕ) (demapper : De
   pub room : handed ≤ 14410 * number
   pub size : length out ≡ 230560
   pub done : take handed out ≡ handedOver w d (framesIn number bytes)
-  pub still : allQuiet w d (framesIn number bytes) ≡ true
+  pub still : nothingToTellOf w d (framesIn number bytes) ≡ true
 
 pub running-start : (w : Wanted) (d : Demapper) (bytes out : List ℕ) → length out ≡ 230560 → Running w d bytes d 0 0 out
-unfolding framesIn handedOver allQuiet
+unfolding framesIn handedOver nothingToTellOf
 running-start w d bytes out l =
     record { few = omega arith; whole = omega arith; here = refl; room = omega arith; size = l; done = refl; still = refl }
 
@@ -111,11 +113,11 @@ module _ (w : Wanted) (d : Demapper) (bytes : List ℕ) (demapper : Demapper) (n
       size-next = same-len-mid handed (handed + 14410 - handed) out new kept ∙ g .size
 
       -- whether something is to be told of it
-      tells : (b : Bool) → b ≡ isQuiet demapper (standingMeaning (t .standing)) (t .mended) (t .after) → quiet w demapper frame ≡ b
-      unfolding quiet
-      tells b e = sym (e ∙ ap₂ (λ (x : Finding) (y : Bool). isQuiet demapper x y (t .after)) (taken .standing) (taken .mended) ∙ ap (isQuiet demapper (standingOf w demapper frame) (mendedIn (settingsOf w) (control frame))) (taken .after))
+      tells : (b : Bool) → b ≡ nothingToTellBy demapper (standingMeaning (t .standing)) (t .mended) (t .after) → nothingToTell w demapper frame ≡ b
+      unfolding nothingToTell
+      tells b e = sym (e ∙ ap₂ (λ (x : Finding) (y : Bool). nothingToTellBy demapper x y (t .after)) (taken .standing) (taken .mended) ∙ ap (nothingToTellBy demapper (standingOf w demapper frame) (mendedIn (settingsOf w) (control frame))) (taken .after))
 
-      pub running-next : true ≡ isQuiet demapper (standingMeaning (t .standing)) (t .mended) (t .after)
+      pub running-next : true ≡ nothingToTellBy demapper (standingMeaning (t .standing)) (t .mended) (t .after)
           → Running w d bytes (t .after) (number + 1) (handed + t .handed) (putMid handed (handed + 14410 - handed) out new)
       running-next q =
           record {
@@ -125,10 +127,10 @@ module _ (w : Wanted) (d : Demapper) (bytes : List ℕ) (demapper : Demapper) (n
             room = omega (arith, g .room, few-bytes);
             size = size-next;
             done = done-next;
-            still = ap (allQuiet w d) (frames-next number bytes) ∙ quiet-next w d (framesIn number bytes) frame (g .still) (ap (λ (x : Demapper). quiet w x frame) (sym (g .here)) ∙ tells true q);
+            still = ap (nothingToTellOf w d) (frames-next number bytes) ∙ nothing-next w d (framesIn number bytes) frame (g .still) (ap (λ (x : Demapper). nothingToTell w x frame) (sym (g .here)) ∙ tells true q);
           }
 
-      pub run-told : false ≡ isQuiet demapper (standingMeaning (t .standing)) (t .mended) (t .after)
+      pub run-told : false ≡ nothingToTellBy demapper (standingMeaning (t .standing)) (t .mended) (t .after)
           → Runs w d bytes (record { frames = number + 1; handed = handed + t .handed; before = demapper; after = t .after; told = Last (t .standing) (t .mended) }) (putMid handed (handed + 14410 - handed) out new)
       run-told q =
           record {
@@ -143,7 +145,7 @@ module _ (w : Wanted) (d : Demapper) (bytes : List ℕ) (demapper : Demapper) (n
               record {
                 earlier = g .still;
                 demapper = g .here;
-                loud = tells false q;
+                tells-it = tells false q;
                 standing = taken .standing;
                 mended = taken .mended;
               },
@@ -170,12 +172,34 @@ goes-held w d h block r out has p behind e =
 -- behind what was held before
 pub goes-on : (w : Wanted) (d : Demapper) (old bytes block : List ℕ) (r : Next) → take (length old) bytes ≡ old → Goes w d bytes r block → GoesOn w d old r block
 goes-on w d old bytes block (From r n h) e p = (bytes, e, p)
-goes-on w d old bytes block End e p = tt
+goes-on w d old bytes block (Stopped s) e p = unwritten-stops old 15240 s block p
 
--- a demapper that has come so far, and what it comes to with some frames more
-pub all-start : (w : Wanted) (r : Demapper) → r ≡ newDemapper → DemapsAll w r
-all-start w r e = ([], e)
+-- A demapper that has come so far, over so many frames from a new one on.
+pub record Along (w : Wanted) (d : Demapper) (taken : ℕ) : Type 0 where
+  pub frames : List (List ℕ)
+  pub over : Demaps w d frames
+  pub number : length frames ≡ taken
 
-pub all-next : (w : Wanted) (d : Demapper) → DemapsAll w d → (bytes : List ℕ) (r : Demapper) (n : ℕ) (behind : List ℕ) → TakesFrames w d bytes r n behind → DemapsAll w r
-all-next w d a bytes r n behind p =
-    (a .0 ++ framesIn n bytes, p .after ∙ ap (λ (x : Demapper). demapperOver w x (framesIn n bytes)) (a .1) ∙ sym (foldl-append (demapperAfter w) newDemapper (a .0) (framesIn n bytes)))
+pub along-start : (w : Wanted) (r : Demapper) → r ≡ newDemapper → Along w r 0
+along-start w r e = record { frames = []; over = e; number = refl }
+
+frames-length : (n : ℕ) (bytes : List ℕ) → length (framesIn n bytes) ≡ n
+unfolding framesIn
+frames-length zero bytes = refl
+frames-length (suc n) bytes = length-append (framesIn n bytes) (frameAt n bytes ∷ []) ∙ ap (λ (i : ℕ). i + 1) (frames-length n bytes) ∙ add-one n
+
+pub along-next : (w : Wanted) (d : Demapper) (taken : ℕ) → Along w d taken → (bytes : List ℕ) (r : Demapper) (n : ℕ) (behind : List ℕ) → TakesFrames w d bytes r n behind → Along w r (taken + n)
+along-next w d taken a bytes r n behind p =
+    record {
+      frames = a .frames ++ framesIn n bytes;
+      over = p .after ∙ ap (λ (x : Demapper). demapperOver w x (framesIn n bytes)) (a .over) ∙ sym (foldl-append (demapperAfter w) newDemapper (a .frames) (framesIn n bytes));
+      number = omega (arith, length-append (a .frames) (framesIn n bytes), a .number, frames-length n bytes);
+    }
+
+-- its end: a stop, or as many frames as can be counted
+pub run-stopped : (w : Wanted) (d : Demapper) (taken : ℕ) → Along w d taken → (old block : List ℕ) (s : Stop) → Stops old 15240 (s .why) block
+    → DemapsAll w (record { demapper = d; end = StoppedRun s })
+run-stopped w d taken a old block s p = record { frames = a .frames; demapper = a .over; ends = stop-ends old 15240 (s .why) block p }
+
+pub run-full : (w : Wanted) (d : Demapper) (taken : ℕ) → Along w d taken → 18446744073709551599 ≤ taken → DemapsAll w (record { demapper = d; end = Full })
+run-full w d taken a h = record { frames = a .frames; demapper = a .over; ends = omega (arith, a .number) }

@@ -8,17 +8,19 @@ use card_tally::Tally;
 use gmp_payload_type::AcceptedType;
 use gmp_standing::Standing;
 use libc::STDERR_FILENO;
-use libc::STDIN_FILENO;
 use program_decimal::Number;
 use program_demap::Demapper;
 use program_demap::Wanted;
+use program_stream::Done;
+use program_stream::End;
 use program_stream::Held;
+use program_stream::Stop;
 use program_stream::Supplied;
 ghost use mathlib.Core.Path.{_≡_};
-ghost use mathlib.Core.Bool.{true};
 ghost use Prim.Native.Nat.{_≤_, _<_};
 ghost use lib.ListN.{length};
-ghost use Rattle.program_stream.specs.Gather.{heldBytes, Has};
+ghost use Rattle.program_stream.specs.declared.Done.the-variants.{Whole};
+ghost use Rattle.program_stream.specs.Gather.{heldBytes, Has, Writes};
 ghost use Rattle.odu0demap.specs.Demapping.{isWord, framesIn, handedOver, Goes, GoesOn, DemapsAll, Runs};
 
 // What is to be told of a run of frames: nothing, or of its last frame the standing, and whether it
@@ -38,11 +40,16 @@ struct Run {
     told: Told,
 }
 
-// The demapper to go on from, the number of frames taken and the bytes held behind them, or that
-// there is no more to hand out.
+// The demapper to go on from, the number of frames taken and the bytes held behind them, or a stop.
 enum Next {
     From(Demapper, usize, Held),
-    End,
+    Stopped(Stop),
+}
+
+// What all frames came to: the demapper at their end, and how the run ended.
+struct Demapped {
+    demapper: Demapper,
+    end: End,
 }
 
 // What the arguments ask for, or that they are wrong.
@@ -61,8 +68,11 @@ fn main() {
         );
         return;
     };
-    let end = demap_all(wanted);
-    show_tally(end.tally);
+    let all = demap_all(wanted);
+    let end = all.end;
+    program_stream::say_left(b"odu0demap: ", end);
+    let demapper = all.demapper;
+    show_tally(demapper.tally);
 }
 
 // Without an argument nothing is mended and no type is checked.
@@ -144,7 +154,7 @@ fn is_word(text: &[u8], one: u8, two: u8, three: u8, four: u8) -> bool
 }
 
 // Takes all frames, with room for 16 of them and for the largest loads that these can carry.
-fn demap_all(wanted: Wanted) -> Demapper
+fn demap_all(wanted: Wanted) -> Demapped
     ensures { λ r. ⌜ DemapsAll wanted r ⌝ }
 {
     let mut frames = [0u8; 243840];
@@ -152,10 +162,10 @@ fn demap_all(wanted: Wanted) -> Demapper
     demap_stream(wanted, &mut frames, &mut out)
 }
 
-// Takes run after run of frames from a new demapper on, and gives the demapper at their end: that
-// of the last run whose bytes were written. A proved loop has to end: this one does where the
-// number of frames could grow past 64 bits, which no input reaches.
-fn demap_stream(wanted: Wanted, frames: &mut [u8], out: &mut [u8]) -> Demapper
+// Takes run after run of frames from a new demapper on until there is a stop, and gives the
+// demapper at their end: that of the last run whose bytes were written. A proved loop has to end:
+// this one does where the number of frames could grow past 64 bits, which no input reaches.
+fn demap_stream(wanted: Wanted, frames: &mut [u8], out: &mut [u8]) -> Demapped
     requires { ⌜ (length (now frames) ≡ 243840) × (length (now out) ≡ 230560) ⌝ }
     ensures { λ r. ⌜ DemapsAll wanted r ⌝ }
 {
@@ -164,18 +174,27 @@ fn demap_stream(wanted: Wanted, frames: &mut [u8], out: &mut [u8]) -> Demapper
     let mut taken: u64 = 0;
     while taken < u64::MAX - 16 {
         let next = take_next(wanted, taken, demapper, held, frames, out);
-        let Next::From(after, number, behind) = next else {
-            return demapper;
-        };
-        demapper = after;
-        held = behind;
-        taken += number as u64;
+        match next {
+            Next::From(after, number, behind) => {
+                demapper = after;
+                held = behind;
+                taken += number as u64;
+            }
+            Next::Stopped(stop) => {
+                return Demapped {
+                    demapper: demapper,
+                    end: End::Stopped(stop),
+                };
+            }
+        }
     }
-    demapper
+    Demapped {
+        demapper: demapper,
+        end: End::Full,
+    }
 }
 
-// Reads on until a whole frame is held, and takes the next run of them, or says what is left where
-// the input ends.
+// Reads on until a whole frame is held, and takes the next run of them.
 fn take_next(
     wanted: Wanted,
     taken: u64,
@@ -187,21 +206,11 @@ fn take_next(
     requires { ⌜ (taken < 18446744073709551599) × (length (now frames) ≡ 243840) × (length (now out) ≡ 230560) ⌝ }
     ensures { λ r. ⌜ GoesOn wanted demapper (heldBytes held (now (frames .entry))) r (now (frames .exit)) ⌝ }
 {
-    let got = program_stream::supply(STDIN_FILENO, frames, held, 15240);
-    let Supplied::Enough(more) = got else {
-        show_end(got);
-        return Next::End;
-    };
-    take_held(wanted, taken, demapper, more, frames, out)
-}
-
-// Says what is left where the input ends, or why it could not be read.
-fn show_end(got: Supplied) {
-    let Supplied::Rest(left) = got else {
-        os::fail(b"odu0demap: standard input");
-        return;
-    };
-    program_stream::say_left(b"odu0demap: ", left);
+    let got = program_stream::supply(frames, held, 15240, b"odu0demap: standard input");
+    match got {
+        Supplied::Enough(more) => take_held(wanted, taken, demapper, more, frames, out),
+        Supplied::Stopped(stop) => Next::Stopped(stop),
+    }
 }
 
 // Takes a run of the frames that are held, writes its client bytes and says what is to be told of
@@ -224,24 +233,27 @@ fn take_held(
     let number = run.frames;
     let handed = run.handed;
     let after = run.after;
-    let is_written = hand_out(wanted, demapper, whole, number, &out[..handed]);
-    if is_written {
-        show_told(is_written, taken + number as u64, run);
-        return Next::From(
-            after,
-            number,
-            Held {
-                at: at + 15240 * number,
-                end: end,
-            },
-        );
+    let done = hand_out(wanted, demapper, whole, number, &out[..handed]);
+    match done {
+        Done::Whole => {
+            show_told(done, taken + number as u64, run);
+            Next::From(
+                after,
+                number,
+                Held {
+                    at: at + 15240 * number,
+                    end: end,
+                },
+            )
+        }
+        Done::Stopped(stop) => Next::Stopped(stop),
     }
-    Next::End
 }
 
 // Writes the client bytes of so many frames, all of them and in order, or says why that failed.
-fn hand_out(wanted: Wanted, demapper: Demapper, frames: &[u8], number: usize, bytes: &[u8]) -> bool
+fn hand_out(wanted: Wanted, demapper: Demapper, frames: &[u8], number: usize, bytes: &[u8]) -> Done
     requires { ⌜ now bytes ≡ handedOver wanted demapper (framesIn number (now frames)) ⌝ }
+    ensures { λ r. ⌜ Writes r ⌝ }
 {
     program_stream::write_out(bytes, b"odu0demap: standard output")
 }
@@ -277,7 +289,7 @@ fn demap_run(wanted: Wanted, first: Demapper, frames: &[u8], out: &mut [u8]) -> 
         let after = taken.after;
         number += 1;
         handed += taken.handed as usize;
-        if program_told::is_quiet(demapper, taken) {
+        if program_told::has_nothing_to_tell(demapper, taken) {
             demapper = after;
         } else {
             return Run {
@@ -300,8 +312,8 @@ fn demap_run(wanted: Wanted, first: Demapper, frames: &[u8], out: &mut [u8]) -> 
 
 // Says how the last frame of a run changed the standing and the accepted type, where that is to be
 // told: only once the bytes of the run are written.
-fn show_told(is_written: bool, frame_number: u64, run: Run)
-    requires { ⌜ «is_written» ≡ true ⌝ }
+fn show_told(done: Done, frame_number: u64, run: Run)
+    requires { ⌜ done ≡ Whole ⌝ }
 {
     let told = run.told;
     let Told::Last(standing, mended) = told else {
@@ -321,7 +333,7 @@ fn show_told(is_written: bool, frame_number: u64, run: Run)
 // new to say: by one write, since at the usual rate nearly every frame has such a line. The longest
 // has 6, 20, 2, 8, 1, 10 and 8 bytes for its seven parts, 55 in all.
 fn show_change(frame_number: u64, before: Demapper, standing: Standing, mended: bool) {
-    if program_told::is_silent(before, standing, mended) {
+    if program_told::has_no_line(before, standing, mended) {
         return;
     }
     let mut line = [0u8; 64];

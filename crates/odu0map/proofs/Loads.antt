@@ -1,5 +1,5 @@
 -- From load to load, and from batch to batch. Assumes nothing.
-use mathlib.Core.Path.{_≡_, refl, sym, ap, ap₂, _∙_}
+use mathlib.Core.Path.{_≡_, refl, sym, ap, ap₂, subst, _∙_}
 use mathlib.Core.Logic.{_⊎_, ⊎-elim}
 use mathlib.Core.List.{List, _++_}
 use Prim.Native.Nat.{ℕ, zero, suc, _+_, _-_, _*_, _%_, _≤_, _<_}
@@ -10,17 +10,20 @@ use lib.ListN.{length, take, drop}
 use lib.Seq.{take-all}
 use borrow.Rule.Slice.PartMut.{putMid, mid-len, same-len-mid}
 use Rattle.program_stream.specs.declared.Held.{Held}
-use Rattle.program_stream.specs.Gather.{heldBytes, Has}
-use Rattle.program_stream.proofs.Laws.{held-length, held-behind, put-behind}
+use Rattle.program_stream.specs.declared.Stop.{Stop}
+use Rattle.program_stream.specs.declared.End.the-variants.{Stopped as StoppedRun, Full}
+use Rattle.program_stream.specs.Gather.{heldBytes, Has, Holds, Stops, EndsFor}
+use Rattle.program_stream.proofs.Laws.{has-enough, held-length, held-behind, put-behind, unwritten-stops, stop-ends}
 use Rattle.gmp_settings.specs.Settings.{opu0}
+use Rattle.gmp_settings.proofs.Laws.{inside-window}
 use Rattle.gmp_source.specs.Source.{written}
 use Rattle.program_map.specs.declared.Rate.{Rate}
 use Rattle.program_map.specs.declared.Mapper.{Mapper}
 use Rattle.odu0map.specs.declared.Batch.{Batch}
 use Rattle.odu0map.specs.declared.Next.{Next}
-use Rattle.odu0map.specs.declared.Next.the-variants.{From, End}
+use Rattle.odu0map.specs.declared.Next.the-variants.{From, Stopped}
 use Rattle.program_map.specs.Frames.{countFrom, Ready, mapped, Maps}
-use Rattle.odu0map.specs.Mapping.{mapperAfter, bytesAfter, loadAt, frameAt, framesAfter, Batched, MapsLoads, Goes, GoesOn}
+use Rattle.odu0map.specs.Mapping.{mapperAfter, bytesAfter, loadAt, frameAt, framesAfter, Batched, MapsLoads, Goes, GoesOn, Counts}
 
 -- one frame more
 mapper-after-next : (a : Rate) (m : Mapper) (n : ℕ) → mapped a (mapperAfter a m n) ≡ mapperAfter a m (n + 1)
@@ -124,6 +127,10 @@ takes-some a m client r p h l (suc n) e = omega arith
 pub takes-one : (a : Rate) (m : Mapper) (client : List ℕ) (r : Batch) → Batched a m client r → m .source .count ≤ length client → 0 < r .frames
 takes-one a m client r p h = ⊎-elim (λ e. omega (arith, e)) (λ l. takes-some a m client r p h l (r .frames) refl) (p .all)
 
+-- a load is held, since the block has room for one
+pub holds-load : (a : Rate) (m : Mapper) (old : List ℕ) (h : Held) (block : List ℕ) → Ready a m → length block ≡ 230560 → Holds old (m .source .count) h block → Has (m .source .count) h block
+holds-load a m old h block ready l p = has-enough old (m .source .count) h block p (omega (arith, l, inside-window opu0 (m .source .count) (ready .count) .1))
+
 -- a batch of the loads that are held, and the bytes behind it
 pub goes-held : (a : Rate) (m : Mapper) (h : Held) (block : List ℕ) (r : Batch) → Has (m .source .count) h block → Batched a m (heldBytes h block) r
     → (behind : ℕ) → behind ≡ h .at + r .bytes → Goes a m (heldBytes h block) (From r (record { at = behind; end = h .end })) block
@@ -140,7 +147,7 @@ behind-fits h block least n w l = omega (arith, w .order, w .within, held-length
 -- behind what was held before
 pub goes-on : (a : Rate) (m : Mapper) (old client block : List ℕ) (r : Next) → take (length old) client ≡ old → Goes a m client r block → GoesOn a m old r block
 goes-on a m old client block (From r h) e p = (client, e, p)
-goes-on a m old client block End e p = tt
+goes-on a m old client block (Stopped s) e p = unwritten-stops old (m .source .count) s block p
 
 -- A run of batches: after so many frames from m₀ the mapper is at m, and the frames carry so many
 -- client bytes, modulo 2^64.
@@ -165,3 +172,15 @@ along-next a m₀ m n b l h client r p c e =
       at = p .mapper ∙ begun ∙ mapper-after-more a m₀ n (r .frames);
       sum = omega (arith, e, l .sum, p .bytes, carried, bytes-after-more a m₀ n (r .frames));
     }
+
+-- its end: a stop, or as many frames as can be counted
+pub run-stopped : (a : Rate) (m₀ m : Mapper) (frames bytes : ℕ) → Along a m₀ m frames bytes → (old block : List ℕ) (s : Stop) → Stops old (m .source .count) (s .why) block
+    → Counts a m₀ (record { frames = frames; bytes = bytes; end = StoppedRun s })
+run-stopped a m₀ m frames bytes l old block s p =
+    record {
+      bytes = l .sum;
+      ends = subst (λ (x : Mapper). EndsFor (x .source .count) (s .why)) (l .at) (stop-ends old (m .source .count) (s .why) block p);
+    }
+
+pub run-full : (a : Rate) (m₀ m : Mapper) (frames bytes : ℕ) → Along a m₀ m frames bytes → 18446744073709551599 ≤ frames → Counts a m₀ (record { frames = frames; bytes = bytes; end = Full })
+run-full a m₀ m frames bytes l h = record { bytes = l .sum; ends = h }

@@ -6,16 +6,18 @@ use gmp_refusal::NAMES;
 use gmp_refusal::Refusal;
 use gmp_refusal::Verdict;
 use libc::STDERR_FILENO;
-use libc::STDIN_FILENO;
 use program_decimal::Number;
 use program_map::Mapper;
 use program_map::Rate;
 use program_map::Start;
+use program_stream::Done;
+use program_stream::End;
 use program_stream::Held;
+use program_stream::Stop;
 use program_stream::Supplied;
 ghost use mathlib.Core.Path.{_≡_};
 ghost use lib.ListN.{length};
-ghost use Rattle.program_stream.specs.Gather.{heldBytes, Has};
+ghost use Rattle.program_stream.specs.Gather.{heldBytes, Has, Writes};
 ghost use Rattle.program_map.specs.Frames.{Ready};
 ghost use Rattle.odu0map.specs.Mapping.{framesAfter, Goes, GoesOn, MapsLoads, Counts};
 
@@ -25,10 +27,12 @@ enum Asked {
     Wrong,
 }
 
-// The frames of the writes that were done, and the client bytes that they carry, modulo 2^64.
+// The frames of the writes that were done, the client bytes that they carry, modulo 2^64, and how
+// the run ended.
 struct Totals {
     frames: u64,
     bytes: u64,
+    end: End,
 }
 
 // What some loads came to: the mapper after them, the number of their frames, and the client bytes
@@ -39,10 +43,10 @@ struct Batch {
     bytes: usize,
 }
 
-// What was mapped, with the client bytes held behind it, or that there is nothing more to map.
+// What was mapped, with the client bytes held behind it, or a stop.
 enum Next {
     From(Batch, Held),
-    End,
+    Stopped(Stop),
 }
 
 // Maps the input at the rate asked for, or says why it cannot.
@@ -95,9 +99,9 @@ fn map_all(rate: Rate, new: Mapper) -> Totals
     map_stream(rate, new, &mut client, &mut frames)
 }
 
-// Maps batch after batch, each by the mapper that the one before it left. Where a batch cannot be
-// written the totals are those of the batches before it. A proved loop has to end: this one does
-// where the number of frames could grow past 64 bits, which no input reaches.
+// Maps batch after batch, each by the mapper that the one before it left, until there is a stop.
+// Where a batch cannot be written the totals are those of the batches before it. A proved loop has
+// to end: this one does where the number of frames could grow past 64 bits, which no input reaches.
 fn map_stream(rate: Rate, new: Mapper, client: &mut [u8], frames: &mut [u8]) -> Totals
     requires { ⌜ Ready rate new × (length (now client) ≡ 230560) × (length (now frames) ≡ 243840) ⌝ }
     ensures { λ r. ⌜ Counts rate new r ⌝ }
@@ -108,45 +112,40 @@ fn map_stream(rate: Rate, new: Mapper, client: &mut [u8], frames: &mut [u8]) -> 
     let mut bytes: u64 = 0;
     while written < u64::MAX - 16 {
         let next = map_next(rate, mapper, held, client, frames);
-        let Next::From(batch, behind) = next else {
-            return Totals {
-                frames: written,
-                bytes: bytes,
-            };
-        };
-        mapper = batch.mapper;
-        held = behind;
-        written += batch.frames as u64;
-        bytes = std::num::wrapping_add_u64(bytes, batch.bytes as u64);
+        match next {
+            Next::From(batch, behind) => {
+                mapper = batch.mapper;
+                held = behind;
+                written += batch.frames as u64;
+                bytes = std::num::wrapping_add_u64(bytes, batch.bytes as u64);
+            }
+            Next::Stopped(stop) => {
+                return Totals {
+                    frames: written,
+                    bytes: bytes,
+                    end: End::Stopped(stop),
+                };
+            }
+        }
     }
     Totals {
         frames: written,
         bytes: bytes,
+        end: End::Full,
     }
 }
 
-// Reads on until a whole load is held, and maps all that are, or says what is left where the input
-// ends.
+// Reads on until a whole load is held, and maps all that are.
 fn map_next(rate: Rate, mapper: Mapper, held: Held, client: &mut [u8], frames: &mut [u8]) -> Next
     requires { ⌜ Ready rate mapper × (length (now client) ≡ 230560) × (length (now frames) ≡ 243840) ⌝ }
     ensures { λ r. ⌜ GoesOn rate mapper (heldBytes held (now (client .entry))) r (now (client .exit)) ⌝ }
 {
     let least = mapper.source.count as usize;
-    let got = program_stream::supply(STDIN_FILENO, client, held, least);
-    let Supplied::Enough(more) = got else {
-        show_end(got);
-        return Next::End;
-    };
-    map_held(rate, mapper, more, client, frames)
-}
-
-// Says what is left where the input ends, or why it could not be read.
-fn show_end(got: Supplied) {
-    let Supplied::Rest(left) = got else {
-        os::fail(b"odu0map: standard input");
-        return;
-    };
-    program_stream::say_left(b"odu0map: ", left);
+    let got = program_stream::supply(client, held, least, b"odu0map: standard input");
+    match got {
+        Supplied::Enough(more) => map_held(rate, mapper, more, client, frames),
+        Supplied::Stopped(stop) => Next::Stopped(stop),
+    }
 }
 
 // Maps the loads that are held and writes their frames. Where that fails nothing more is mapped.
@@ -159,21 +158,23 @@ fn map_held(rate: Rate, mapper: Mapper, held: Held, client: &[u8], frames: &mut 
     let loads = &client[at..end];
     let batch = map_loads(rate, mapper, loads, frames);
     let length = 15240 * batch.frames;
-    if write_frames(rate, mapper, loads, batch.frames, &frames[..length]) {
-        return Next::From(
+    let done = write_frames(rate, mapper, loads, batch.frames, &frames[..length]);
+    match done {
+        Done::Whole => Next::From(
             batch,
             Held {
                 at: at + batch.bytes,
                 end: end,
             },
-        );
+        ),
+        Done::Stopped(stop) => Next::Stopped(stop),
     }
-    Next::End
 }
 
 // Writes the frames of so many loads, all of them and in order, or says why that failed.
-fn write_frames(rate: Rate, mapper: Mapper, loads: &[u8], number: usize, frames: &[u8]) -> bool
+fn write_frames(rate: Rate, mapper: Mapper, loads: &[u8], number: usize, frames: &[u8]) -> Done
     requires { ⌜ now frames ≡ framesAfter rate mapper (now loads) number ⌝ }
+    ensures { λ r. ⌜ Writes r ⌝ }
 {
     program_stream::write_out(frames, b"odu0map: standard output")
 }
@@ -211,8 +212,11 @@ fn map_loads(rate: Rate, first: Mapper, client: &[u8], frames: &mut [u8]) -> Bat
     }
 }
 
-// Says how many frames the writes had that were done, and how many client bytes they carry.
+// Says what is left where the input ended, how many frames the writes had that were done, and how
+// many client bytes they carry.
 fn show_totals(totals: Totals) {
+    let end = totals.end;
+    program_stream::say_left(b"odu0map: ", end);
     program_stream::say(b"odu0map: frames ", totals.frames);
     program_stream::say_line(b", bytes ", totals.bytes);
 }

@@ -27,8 +27,8 @@ abbrev pub isSame : Demapper → Finding → Bool
 isSame d f = eqb (standingNumber (f .name)) (d .last) && sameCount (f .count) (d .state .count)
 
 -- nothing is said of a frame that was not mended and has the standing of the frame before
-abbrev pub isSilent : Demapper → Finding → Bool → Bool
-isSilent d f mended = cond mended false (isSame d f)
+abbrev pub hasNoLine : Demapper → Finding → Bool → Bool
+hasNoLine d f mended = cond mended false (isSame d f)
 
 -- two accepted types are the same, or there is none both times
 abbrev pub sameType : AcceptedType → AcceptedType → Bool
@@ -37,9 +37,9 @@ sameType (PayloadType n) NoType = false
 sameType NoType (PayloadType m) = false
 sameType NoType NoType = true
 
--- nothing is to be told of a frame: it is silent, and the accepted type stays
-abbrev pub isQuiet : Demapper → Finding → Bool → Demapper → Bool
-isQuiet d f mended after = isSilent d f mended && sameType (d .state .types .accepted) (after .state .types .accepted)
+-- nothing is to be told of a frame: its standing has no line, and the accepted type stays
+abbrev pub nothingToTellBy : Demapper → Finding → Bool → Demapper → Bool
+nothingToTellBy d f mended after = hasNoLine d f mended && sameType (d .state .types .accepted) (after .state .types .accepted)
 
-unfoldable pub quiet : Wanted → Demapper → List ℕ → Bool
-quiet w d frame = isQuiet d (standingOf w d frame) (mendedIn (settingsOf w) (control frame)) (demapperAfter w d frame)
+unfoldable pub nothingToTell : Wanted → Demapper → List ℕ → Bool
+nothingToTell w d frame = nothingToTellBy d (standingOf w d frame) (mendedIn (settingsOf w) (control frame)) (demapperAfter w d frame)

@@ -6,16 +6,16 @@ use program_demap::Demapper;
 use program_demap::Taken;
 ghost use mathlib.Core.Path.{_≡_};
 ghost use Rattle.gmp_standing.specs.Standing.{standingMeaning};
-ghost use Rattle.program_told.specs.Told.{sameCount, isSame, isSilent, sameType, isQuiet};
+ghost use Rattle.program_told.specs.Told.{sameCount, isSame, hasNoLine, sameType, nothingToTellBy};
 
 // Whether nothing is to be told of a frame: neither its standing, nor a change of the accepted
 // type.
-pub fn is_quiet(before: Demapper, taken: Taken) -> bool
-    ensures { λ r. ⌜ r ≡ isQuiet before (standingMeaning (taken .standing)) (taken .mended) (taken .after) ⌝ }
+pub fn has_nothing_to_tell(before: Demapper, taken: Taken) -> bool
+    ensures { λ r. ⌜ r ≡ nothingToTellBy before (standingMeaning (taken .standing)) (taken .mended) (taken .after) ⌝ }
 {
     let standing = taken.standing;
     let after = taken.after;
-    if is_silent(before, standing, taken.mended) {
+    if has_no_line(before, standing, taken.mended) {
         return is_same_type(accepted_type(before), accepted_type(after));
     }
     false
@@ -23,8 +23,8 @@ pub fn is_quiet(before: Demapper, taken: Taken) -> bool
 
 // Whether nothing is said of a frame: nothing was mended, and its standing is that of the frame
 // before.
-pub fn is_silent(before: Demapper, standing: Standing, mended: bool) -> bool
-    ensures { λ r. ⌜ r ≡ isSilent before (standingMeaning standing) mended ⌝ }
+pub fn has_no_line(before: Demapper, standing: Standing, mended: bool) -> bool
+    ensures { λ r. ⌜ r ≡ hasNoLine before (standingMeaning standing) mended ⌝ }
 {
     if mended {
         return false;

@@ -8,12 +8,14 @@ use gmp_standing::Count;
 use gmp_standing::NAME_LENGTHS;
 use gmp_standing::NAMES;
 use gmp_standing::Standing;
-use libc::STDIN_FILENO;
-use program_stream::Got;
+use program_stream::Done;
+use program_stream::End;
+use program_stream::Stop;
 ghost use mathlib.Core.Path.{_≡_};
 ghost use Prim.Native.Nat.{_+_, _≤_, _<_};
 ghost use lib.ListN.{length};
 ghost use Rattle.gmp_standing.specs.Standing.{standingMeaning};
+ghost use Rattle.program_stream.specs.Gather.{Writes, leftOf};
 ghost use Rattle.sinkshow.specs.Lines.{decimal, countText, numbersText, standingText, restLine, restText};
 ghost use Rattle.sinkshow.specs.Show.{newRun, Puts, Shows, Goes, GoesOn, ShowsAll};
 
@@ -29,31 +31,49 @@ struct Shown {
     after: Run,
 }
 
-// The run to go on from, or that there is nothing more to show.
+// The run to go on from, or a stop.
 enum Next {
     From(Run),
-    End,
+    Stopped(Stop),
 }
 
-// Shows all frames of the input.
+// All frames shown: the run at its end, and how it ended.
+struct All {
+    run: Run,
+    end: End,
+}
+
+// Shows all frames of the input, and what is left where it ended.
 fn main() {
-    show_all();
+    let all = show_all();
+    let end = all.end;
+    show_rest(end);
 }
 
-// Shows frame after frame from a new run on, and gives the run at its end. A proved loop has to
-// end: this one does at the largest frame number, which no run reaches.
-fn show_all() -> Run
+// Shows frame after frame from a new run on until there is a stop, and gives the run at its end. A
+// proved loop has to end: this one does at the largest frame number, which no run reaches.
+fn show_all() -> All
     ensures { λ r. ⌜ ShowsAll r ⌝ }
 {
     let mut run = new_run();
     while run.frames < u64::MAX {
         let next = show_next(run);
-        let Next::From(after) = next else {
-            return run;
-        };
-        run = after;
+        match next {
+            Next::From(after) => {
+                run = after;
+            }
+            Next::Stopped(stop) => {
+                return All {
+                    run: run,
+                    end: End::Stopped(stop),
+                };
+            }
+        }
     }
-    run
+    All {
+        run: run,
+        end: End::Full,
+    }
 }
 
 // A new sink, and no frame yet.
@@ -67,27 +87,17 @@ fn new_run() -> Run
     }
 }
 
-// Reads the next frame and shows it, or what is left where the input ends.
+// Reads the next frame and shows it.
 fn show_next(run: Run) -> Next
     requires { ⌜ run .frames < 18446744073709551615 ⌝ }
     ensures { λ r. ⌜ GoesOn run r ⌝ }
 {
     let mut frame = [0u8; 16];
-    let got = program_stream::gather(STDIN_FILENO, &mut frame);
-    let Got::Whole = got else {
-        show_end(got);
-        return Next::End;
-    };
-    show_frame(run, &frame)
-}
-
-// Shows what is left where the input ends, or says why it could not be read.
-fn show_end(got: Got) {
-    let Got::Rest(left) = got else {
-        os::fail(b"sinkshow: standard input");
-        return;
-    };
-    show_rest(left);
+    let got = program_stream::gather(&mut frame, b"sinkshow: standard input");
+    match got {
+        Done::Whole => show_frame(run, &frame),
+        Done::Stopped(stop) => Next::Stopped(stop),
+    }
 }
 
 // Takes a frame and writes its line. Where that fails nothing more is shown. Three numbers of up to
@@ -100,21 +110,32 @@ fn show_frame(run: Run, frame: &[u8]) -> Next
     let shown = take_frame(run, frame, &mut line);
     let length = shown.length;
     let after = shown.after;
-    if write_line(&line[..length]) {
-        return Next::From(after);
+    let done = write_line(&line[..length]);
+    match done {
+        Done::Whole => Next::From(after),
+        Done::Stopped(stop) => Next::Stopped(stop),
     }
-    Next::End
 }
 
 // Writes the last line, where a byte or more is left.
-fn show_rest(left: usize) {
+fn show_rest(end: End) {
+    let left = program_stream::left(end);
     let mut line = [0u8; 72];
     let length = put_rest(&mut line, left);
-    write_line(&line[..length]);
+    write_rest(end, &line[..length]);
+}
+
+// Writes the line of the bytes that are left at this end, all of it.
+fn write_rest(end: End, line: &[u8])
+    requires { ⌜ now line ≡ restText (leftOf end) ⌝ }
+{
+    write_line(line);
 }
 
 // Writes a line to standard output.
-fn write_line(line: &[u8]) -> bool {
+fn write_line(line: &[u8]) -> Done
+    ensures { λ r. ⌜ Writes r ⌝ }
+{
     program_stream::write_out(line, b"sinkshow: standard output")
 }
 

@@ -68,8 +68,8 @@ cast-handed c = search needs
 add-handed : tie.Need-add-handed Inv-loop μ-loop
 add-handed c = search needs
 
-is-quiet-requires : tie.Need-is-quiet-requires Inv-loop μ-loop
-is-quiet-requires c κs = search needs
+has-nothing-to-tell-requires : tie.Need-has-nothing-to-tell-requires Inv-loop μ-loop
+has-nothing-to-tell-requires c κs = search needs
 
 loop-less : tie.Need-loop-less Inv-loop μ-loop
 loop-less c = search needs
@@ -80,7 +80,7 @@ loop-again c =
     let l = c .before .before .before .before .before .before .before .before .before .before .before .loop in
     let k = c .before .before .before .before .before .before .demap-frame in
     let asks = running-asks (g .wanted) (g .first) (g .frames .now) (l .demapper) (l .number) (l .handed) (l .out) (l .inv) (c .before .before .before .before .before .before .before .before .before .before .loop-test .taken) (c .before .before .before .before .before .before .before .before .before .if1 .left) in
-    running-next (g .wanted) (g .first) (g .frames .now) (l .demapper) (l .number) (l .handed) (l .out) (l .inv) (c .before .before .before .before .before .before .before .before .before .before .loop-test .taken) (c .before .before .before .before .before .before .before .before .before .if1 .left) (k .result) (k .last .1 .1 .1 .0) (k .ensures (asks .0) (asks .1)) (k .kept .1 .1 .1 .0) (sym (c .if2 .taken) ∙ c .before .is-quiet .ensures)
+    running-next (g .wanted) (g .first) (g .frames .now) (l .demapper) (l .number) (l .handed) (l .out) (l .inv) (c .before .before .before .before .before .before .before .before .before .before .loop-test .taken) (c .before .before .before .before .before .before .before .before .before .if1 .left) (k .result) (k .last .1 .1 .1 .0) (k .ensures (asks .0) (asks .1)) (k .kept .1 .1 .1 .0) (sym (c .if2 .taken) ∙ c .before .has-nothing-to-tell .ensures)
 
 same-length-2 : tie.Need-same-length-2 Inv-loop μ-loop
 same-length-2 c = search needs
@@ -91,7 +91,7 @@ returns-2 c =
     let l = c .before .before .before .before .before .before .before .before .before .before .before .loop in
     let k = c .before .before .before .before .before .before .demap-frame in
     let asks = running-asks (g .wanted) (g .first) (g .frames .now) (l .demapper) (l .number) (l .handed) (l .out) (l .inv) (c .before .before .before .before .before .before .before .before .before .before .loop-test .taken) (c .before .before .before .before .before .before .before .before .before .if1 .left) in
-    run-told (g .wanted) (g .first) (g .frames .now) (l .demapper) (l .number) (l .handed) (l .out) (l .inv) (c .before .before .before .before .before .before .before .before .before .before .loop-test .taken) (c .before .before .before .before .before .before .before .before .before .if1 .left) (k .result) (k .last .1 .1 .1 .0) (k .ensures (asks .0) (asks .1)) (k .kept .1 .1 .1 .0) (sym (c .if2 .left) ∙ c .before .is-quiet .ensures)
+    run-told (g .wanted) (g .first) (g .frames .now) (l .demapper) (l .number) (l .handed) (l .out) (l .inv) (c .before .before .before .before .before .before .before .before .before .before .loop-test .taken) (c .before .before .before .before .before .before .before .before .before .if1 .left) (k .result) (k .last .1 .1 .1 .0) (k .ensures (asks .0) (asks .1)) (k .kept .1 .1 .1 .0) (sym (c .if2 .left) ∙ c .before .has-nothing-to-tell .ensures)
 
 same-length-3 : tie.Need-same-length-3 Inv-loop μ-loop
 same-length-3 c = search needs
@@ -125,7 +125,7 @@ demap-run-spec =
     add-number
     cast-handed
     add-handed
-    is-quiet-requires
+    has-nothing-to-tell-requires
     loop-less
     loop-again
     same-length-2

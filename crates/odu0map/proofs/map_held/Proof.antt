@@ -1,6 +1,8 @@
 -- `odu0map::map_held` meets its contract. Assumes nothing.
+use mathlib.Core.Path.{subst}
 use native.Mathlib.Omega.{arith}
 use lib.ListN.{length-take}
+use Rattle.program_stream.specs.Gather.{Writes}
 use Rattle.odu0map.proofs.Loads.{goes-held, behind-fits}
 use borrow.Author.Needs.{needs}
 use Rattle.odu0map.proofs.map_held.Statement.{statement}
@@ -30,27 +32,33 @@ slice-aggregate-write-frames c = simp length-take (omega (arith, c .before .befo
 write-frames-requires : tie.Need-write-frames-requires
 write-frames-requires c κs = search needs
 
-add-t19 : tie.Need-add-t19
-add-t19 c =
-    let g = c .before .before .before .before .before .before .before .before .before .before .before .before .args in
-    let k = c .before .before .before .before .before .before .before .map-loads in
-    let fits = behind-fits (g .held) (g .client .now) (g .mapper .source .count) (k .result .bytes) (c .before .before .before .before .before .before .before .before .before .before .before .before .pre .1) (k .ensures .batch .within) in
-    record { fits = omega (arith, fits, c .before .before .before .before .before .before .before .before .before .before .before .before .pre .2) }
+enum-told : tie.Need-enum-told
+enum-told c = search needs
+
+add-t21 : tie.Need-add-t21
+add-t21 c =
+    let g = c .before .before .before .before .before .before .before .before .before .before .before .before .before .args in
+    let k = c .before .before .before .before .before .before .before .before .map-loads in
+    let fits = behind-fits (g .held) (g .client .now) (g .mapper .source .count) (k .result .bytes) (c .before .before .before .before .before .before .before .before .before .before .before .before .before .pre .1) (k .ensures .batch .within) in
+    record { fits = omega (arith, fits, c .before .before .before .before .before .before .before .before .before .before .before .before .before .pre .2) }
+
+enum-known-done : tie.Need-enum-known-done
+enum-known-done c = search needs
 
 same-length : tie.Need-same-length
 same-length c = search needs
 
 returns : tie.Need-returns
 returns c =
-    let g = c .before .before .before .before .before .before .before .before .before .before .before .before .args in
-    let k = c .before .before .before .before .before .before .before .map-loads in
-    goes-held (g .rate) (g .mapper) (g .held) (g .client .now) (k .result) (c .before .before .before .before .before .before .before .before .before .before .before .before .pre .1) (k .ensures .batch) _ (omega arith)
+    let g = c .before .before .before .before .before .before .before .before .before .before .before .before .before .args in
+    let k = c .before .before .before .before .before .before .before .before .map-loads in
+    goes-held (g .rate) (g .mapper) (g .held) (g .client .now) (k .result) (c .before .before .before .before .before .before .before .before .before .before .before .before .before .pre .1) (k .ensures .batch) _ (omega arith)
 
 same-length-2 : tie.Need-same-length-2
 same-length-2 c = search needs
 
 returns-2 : tie.Need-returns-2
-returns-2 c = search needs
+returns-2 c = subst Writes (c .before .done .given .1) (c .before .before .before .write-frames .ensures)
 
 pub map-held-spec : {M : Type 1} → statement M
 map-held-spec =
@@ -64,7 +72,9 @@ map-held-spec =
     slice-reshare-prefix-write-frames
     slice-aggregate-write-frames
     write-frames-requires
-    add-t19
+    enum-told
+    add-t21
+    enum-known-done
     same-length
     returns
     same-length-2

@@ -8,7 +8,7 @@ use borrow.Author.Needs.{needs}
 use Rattle.program_stream.specs.Gather.{heldBytes}
 use Rattle.odu0map.specs.declared.Next.{Next}
 use Rattle.odu0map.specs.Mapping.{GoesOn}
-use Rattle.odu0map.proofs.Loads.{Along, along-start, along-next}
+use Rattle.odu0map.proofs.Loads.{Along, along-start, along-next, run-stopped, run-full}
 use Rattle.odu0map.proofs.map_stream.Statement.{statement}
 use Rattle.odu0map.proofs.map_stream.Tie as tie
 
@@ -32,18 +32,6 @@ map-next-requires c κs = (c .before .before .before .loop .inv .0 .ready, c .be
 enum-known-next : tie.Need-enum-known-next Inv-loop μ-loop
 enum-known-next c = search needs
 
-enum-told : tie.Need-enum-told Inv-loop μ-loop
-enum-told c = search needs
-
-same-length : tie.Need-same-length Inv-loop μ-loop
-same-length c = search needs
-
-same-length-2 : tie.Need-same-length-2 Inv-loop μ-loop
-same-length-2 c = search needs
-
-returns : tie.Need-returns Inv-loop μ-loop
-returns c = c .before .before .before .before .before .before .before .before .before .before .loop .inv .0 .sum
-
 add-written : tie.Need-add-written Inv-loop μ-loop
 add-written c =
     let l = c .before .before .before .before .before .before .before .before .before .before .before .before .loop in
@@ -66,7 +54,23 @@ loop-again c =
     let l = c .before .before .before .before .before .before .before .before .before .before .before .before .before .loop in
     let w = c .before .before .before .before .before .before .before .before .before .map-next in
     let goes = subst (λ (r : Next). GoesOn (c .before .before .before .before .before .before .before .before .before .before .before .before .before .before .before .before .args .rate) (l .mapper) (heldBytes (l .held) (l .client)) r (w .last .1 .1 .1 .0)) (c .before .before .before .next .given .1) (w .ensures) in
-    (along-next (c .before .before .before .before .before .before .before .before .before .before .before .before .before .before .before .before .args .rate) (c .before .before .before .before .before .before .before .before .before .before .before .before .before .before .before .before .args .new) (l .mapper) (l .written) (l .bytes) (l .inv .0) (c .before .before .before .before .before .before .before .before .before .before .before .before .loop-test .taken) (goes .0) (c .before .before .before .next .given .0 .0) (goes .2 .0) (c .wrapping-add-u64 .result) (omega (arith, c .wrapping-add-u64 .ensures)), w .kept .1 .1 .1 .0 ∙ l .inv .1, w .kept .1 .1 .1 .1 .0 ∙ l .inv .2)
+    (along-next (c .before .before .before .before .before .before .before .before .before .before .before .before .before .before .before .before .args .rate) (c .before .before .before .before .before .before .before .before .before .before .before .before .before .before .before .before .args .new) (l .mapper) (l .written) (l .bytes) (l .inv .0) (omega (arith, c .before .before .before .before .before .before .before .before .before .before .before .before .loop-test .taken)) (goes .0) (c .before .before .before .next .given .0 .0) (goes .2 .0) (c .wrapping-add-u64 .result) (omega (arith, c .wrapping-add-u64 .ensures)), w .kept .1 .1 .1 .0 ∙ l .inv .1, w .kept .1 .1 .1 .1 .0 ∙ l .inv .2)
+
+enum-known-next-2 : tie.Need-enum-known-next-2 Inv-loop μ-loop
+enum-known-next-2 c = search needs
+
+same-length : tie.Need-same-length Inv-loop μ-loop
+same-length c = search needs
+
+same-length-2 : tie.Need-same-length-2 Inv-loop μ-loop
+same-length-2 c = search needs
+
+returns : tie.Need-returns Inv-loop μ-loop
+returns c =
+    let l = c .before .before .before .before .before .before .before .before .before .before .before .loop in
+    let w = c .before .before .before .before .before .before .before .map-next in
+    let stops = subst (λ (r : Next). GoesOn (c .before .before .before .before .before .before .before .before .before .before .before .before .before .before .args .rate) (l .mapper) (heldBytes (l .held) (l .client)) r (w .last .1 .1 .1 .0)) (c .before .next2 .given .1) (w .ensures) in
+    run-stopped (c .before .before .before .before .before .before .before .before .before .before .before .before .before .before .args .rate) (c .before .before .before .before .before .before .before .before .before .before .before .before .before .before .args .new) (l .mapper) (l .written) (l .bytes) (l .inv .0) (heldBytes (l .held) (l .client)) (w .last .1 .1 .1 .0) (c .before .next2 .given .0 .0) stops
 
 same-length-3 : tie.Need-same-length-3 Inv-loop μ-loop
 same-length-3 c = search needs
@@ -75,7 +79,9 @@ same-length-4 : tie.Need-same-length-4 Inv-loop μ-loop
 same-length-4 c = search needs
 
 returns-2 : tie.Need-returns-2 Inv-loop μ-loop
-returns-2 c = c .before .loop .inv .0 .sum
+returns-2 c =
+    let l = c .before .loop in
+    run-full (c .before .before .before .before .args .rate) (c .before .before .before .before .args .new) (l .mapper) (l .written) (l .bytes) (l .inv .0) (omega (arith, c .loop-test .left))
 
 pub map-stream-spec : {M : Type 1} → statement M
 map-stream-spec =
@@ -87,14 +93,14 @@ map-stream-spec =
     sub-loop
     map-next-requires
     enum-known-next
-    enum-told
-    same-length
-    same-length-2
-    returns
     add-written
     wrapping-add-u64-requires
     loop-less
     loop-again
+    enum-known-next-2
+    same-length
+    same-length-2
+    returns
     same-length-3
     same-length-4
     returns-2)

@@ -5,7 +5,7 @@ use Prim.Native.Nat.{_-_}
 use native.Mathlib.Omega.{arith}
 use borrow.Author.Needs.{needs}
 use Rattle.sinkshow.specs.Show.{GoesOn}
-use Rattle.sinkshow.proofs.Going.{Along, along-start, one-further, along-next, along-shows}
+use Rattle.sinkshow.proofs.Going.{Along, along-start, one-further, along-next, run-stopped, run-full}
 use Rattle.sinkshow.proofs.show_all.Statement.{statement}
 use Rattle.sinkshow.proofs.show_all.Tie as tie
 
@@ -27,12 +27,6 @@ show-next-requires c κs = search needs
 enum-known-next : tie.Need-enum-known-next Inv-loop μ-loop
 enum-known-next c = search needs
 
-enum-told : tie.Need-enum-told Inv-loop μ-loop
-enum-told c = search needs
-
-returns : tie.Need-returns Inv-loop μ-loop
-returns c = along-shows _ (c .before .before .before .before .before .loop .inv)
-
 loop-less : tie.Need-loop-less Inv-loop μ-loop
 loop-less c =
     let l = c .before .before .before .before .before .before .loop in
@@ -41,10 +35,18 @@ loop-less c =
 loop-again : tie.Need-loop-again Inv-loop μ-loop
 loop-again c =
     let l = c .before .before .before .before .before .before .loop in
-    along-next (l .run) _ (l .inv) (c .before .before .before .before .if1 .taken) (subst (GoesOn (l .run)) (c .before .next .given .1) (c .before .before .before .show-next .ensures))
+    along-next (l .run) _ (l .inv) (omega (arith, c .before .before .before .before .if1 .taken)) (subst (GoesOn (l .run)) (c .before .next .given .1) (c .before .before .before .show-next .ensures))
+
+enum-known-next-2 : tie.Need-enum-known-next-2 Inv-loop μ-loop
+enum-known-next-2 c = search needs
+
+returns : tie.Need-returns Inv-loop μ-loop
+returns c =
+    let l = c .before .before .before .before .before .before .loop in
+    run-stopped (l .run) (l .inv) (c .before .next2 .given .0 .0) (subst (GoesOn (l .run)) (c .before .next2 .given .1) (c .before .before .before .show-next .ensures))
 
 returns-2 : tie.Need-returns-2 Inv-loop μ-loop
-returns-2 c = along-shows _ (c .before .before .loop .inv)
+returns-2 c = run-full (c .before .before .loop .run) (c .before .before .loop .inv) (omega (arith, c .if1 .left))
 
 pub show-all-spec : {M : Type 1} → statement M
 show-all-spec =
@@ -56,8 +58,8 @@ show-all-spec =
     loop-holds
     show-next-requires
     enum-known-next
-    enum-told
-    returns
     loop-less
     loop-again
+    enum-known-next-2
+    returns
     returns-2)

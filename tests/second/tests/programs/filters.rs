@@ -391,6 +391,22 @@ fn there_and_back() {
     );
 }
 
+/// Several thousand frames through both filters: they go on until the input ends.
+#[test]
+fn thousands_of_frames() {
+    let input = Random::new(32).bytes(14407 * 5000 + 9);
+    let frames = run("odu0map", &["14407", "1"], vec![input.clone()], None);
+    let said = "odu0map: 9 bytes left at the end\nodu0map: frames 5000, bytes 72035000\n";
+    assert_eq!(frames.said, said);
+    assert_eq!(frames.out.len(), 5000 * FRAME);
+    let back = run("odu0demap", &[], vec![[&frames.out[..], &[0; 7]].concat()], None);
+    // The first frame hands out nothing, for want of its count.
+    let said = "frame 1: READ 14407\nodu0demap: 7 bytes left at the end\n\
+                odu0demap: frames 5000, BADCHECK 0, bytes 72020593\n";
+    assert_eq!(back.said, said);
+    assert!(back.out == input[14407..14407 * 5000]);
+}
+
 #[test]
 fn slow_pieces() {
     let mut random = Random::new(15);
