@@ -1,5 +1,5 @@
-// What the programs share: bytes from standard input, whole blocks or as many as there are, bytes to
-// standard output, why a program stops, numbers from arguments, and messages on standard error.
+// What the programs share: bytes from standard input, whole blocks or as many as there are, bytes
+// to standard output, why a program stops, numbers from arguments, and messages on standard error.
 use libc::STDERR_FILENO;
 use libc::STDIN_FILENO;
 use libc::STDOUT_FILENO;

@@ -54,9 +54,9 @@ abbrev pub GoesOn : Run → Next → Type 0
 GoesOn n (From r) = (frame : List ℕ) × (length frame ≡ 16) × (r ≡ runAfter n frame)
 GoesOn n (Stopped s) = EndsFor 16 (s .why)
 
--- All frames: the run at the end is a new one after some frames, each once and in order. And why it
--- ended: the input did, with less than a frame left, a read or a write failed, or there are 2^64 - 1
--- frames.
+-- All frames: the run at the end is a new one after some frames, each once and in order. And why
+-- it ended: the input did, with less than a frame left, a read or a write failed, or there are
+-- 2^64 - 1 frames.
 pub record ShowsAll (r : All) : Type 0 where
   pub frames : List (List ℕ)
   pub run : r .run ≡ foldl runAfter newRun frames
