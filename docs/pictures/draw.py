@@ -34,7 +34,7 @@ GROUPS = [
     ("The interface for C and Rust", "#e7dcf3", ("c_",)),
     ("The card: the sink with a tally for each port", "#d5edec", ("card_",)),
     ("The generic mapper", CLIENT, ("gmp_",)),
-    ("The floor", OVER, ("math", "refusals")),
+    ("The floor", OVER, ("math", "refusals", "ports")),
 ]
 
 

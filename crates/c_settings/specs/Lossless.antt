@@ -15,14 +15,14 @@ use Rattle.c_settings.specs.Numbers.{settingsFrom}
 -- check
 abbrev pub numbersOf : ℕ → ℕ → ℕ → Patterns → ℕ → ℕ → SettingsNumbers
 numbersOf k lo hi Standard mends checks =
-    record { k = k; lo = lo; hi = hi; given = 0; plus1 = 0; minus1 = 0; plus2 = 0; minus2 = 0; mending = mends; «type_check» = checks }
+    record { k = k; lo = lo; hi = hi; «has_patterns» = 0; plus1 = 0; minus1 = 0; plus2 = 0; minus2 = 0; mending = mends; «type_check» = checks }
 numbersOf k lo hi (Given p) mends checks =
-    record { k = k; lo = lo; hi = hi; given = 1; plus1 = p .plus1; minus1 = p .minus1; plus2 = p .plus2; minus2 = p .minus2; mending = mends; «type_check» = checks }
+    record { k = k; lo = lo; hi = hi; «has_patterns» = 1; plus1 = p .plus1; minus1 = p .minus1; plus2 = p .plus2; minus2 = p .minus2; mending = mends; «type_check» = checks }
 
 abbrev pub settingsNumbers : Settings → SettingsNumbers
 settingsNumbers s = numbersOf (s .k) (s .lo) (s .hi) (s .patterns) (cond (s .mending) 1 0) (cond (s .«type_check») 1 0)
 
 pub record Lossless : Type 0 where
   pub settings : (s : Settings) → settingsFrom (settingsNumbers s) ≡ s
-  pub standard : (x : SettingsNumbers) → x .given ≡ 0
+  pub standard : (x : SettingsNumbers) → x .«has_patterns» ≡ 0
       → settingsFrom x ≡ withTypeCheck (withMending (newSettings (x .k) (x .lo) (x .hi)) (not (eqb (x .mending) 0))) (not (eqb (x .«type_check») 0))

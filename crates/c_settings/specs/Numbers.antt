@@ -16,7 +16,7 @@ fourFrom x = record { plus1 = x .plus1; minus1 = x .minus1; plus2 = x .plus2; mi
 unfoldable pub patternsFrom : SettingsNumbers → Settings
 patternsFrom x =
     let s : Settings = newSettings (x .k) (x .lo) (x .hi) in
-    cond (eqb (x .given) 0) s (withPatterns s (fourFrom x))
+    cond (eqb (x .«has_patterns») 0) s (withPatterns s (fourFrom x))
 
 -- the settings that any ten numbers stand for
 unfoldable pub settingsFrom : SettingsNumbers → Settings

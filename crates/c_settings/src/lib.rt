@@ -13,7 +13,7 @@ pub struct SettingsNumbers {
     pub k: u32,
     pub lo: u32,
     pub hi: u32,
-    pub given: u32,
+    pub has_patterns: u32,
     pub plus1: u32,
     pub minus1: u32,
     pub plus2: u32,
@@ -42,7 +42,7 @@ fn patterns_from(numbers: SettingsNumbers) -> Settings
     ensures { λ r. ⌜ r ≡ patternsFrom numbers ⌝ }
 {
     let settings = gmp_settings::new_settings(numbers.k, numbers.lo, numbers.hi);
-    if numbers.given == 0 {
+    if numbers.has_patterns == 0 {
         return settings;
     }
     let four = FourPatterns {

@@ -10,7 +10,7 @@ use lib.ListN.{length}
 use Rattle.refusals.specs.Table.{Answer, accepted, refused}
 use Rattle.gmp_standing.specs.declared.Standing.{Standing}
 use Rattle.gmp_standing.specs.Standing.{Finding, finding, READ, TRACKED, PAIRED, BADCHECK, WAITING, OUTSIDE, standingMeaning}
-use Rattle.gmp_port.specs.Port.{ports}
+use Rattle.ports.specs.Port.{ports}
 use Rattle.card_tally.specs.declared.Tallies.{Tallies}
 use Rattle.gmp_sink.specs.declared.SinkState.{SinkState}
 use Rattle.c_sink_numbers.specs.declared.SinkNumbers.{SinkNumbers}

@@ -13,7 +13,7 @@ use Rattle.gmp_standing.specs.declared.Count.the-variants.{Known, Unknown}
 use Rattle.gmp_standing.specs.Standing.{Finding, standingNumber}
 use Rattle.gmp_control.specs.declared.Remembered.{Remembered}
 use Rattle.gmp_control.specs.declared.Remembered.the-variants.{Word, Nothing}
-use Rattle.gmp_port.specs.Port.{ports}
+use Rattle.ports.specs.Port.{ports}
 use Rattle.gmp_payload_type.specs.declared.AcceptedType.{AcceptedType}
 use Rattle.gmp_payload_type.specs.declared.AcceptedType.the-variants.{PayloadType, NoType}
 use Rattle.gmp_payload_type.specs.declared.Seen.{Seen}
@@ -127,10 +127,10 @@ sinkReply s x z e frame out port =
 
 -- a tally as three numbers in a row, from this place on
 abbrev pub tallyAt : List ℕ → ℕ → Tally
-tallyAt l i = record { frames = getD l i 0; bad = getD l (i + 1) 0; bytes = getD l (i + 2) 0 }
+tallyAt l i = record { frames = getD l i 0; badcheck = getD l (i + 1) 0; bytes = getD l (i + 2) 0 }
 
 abbrev pub tallyNumbers : Tally → List ℕ
-tallyNumbers y = y .frames ∷ y .bad ∷ y .bytes ∷ []
+tallyNumbers y = y .frames ∷ y .badcheck ∷ y .bytes ∷ []
 
 -- The tallies as 24 numbers: those of port 1, of port 2, and so on. Of the first n ports, and of
 -- all.

@@ -45,28 +45,28 @@ pub fn tallies_numbers(tallies: Tallies) -> [u32; 24]
     let eight = tallies.ports[7];
     [
         one.frames,
-        one.bad,
+        one.badcheck,
         one.bytes,
         two.frames,
-        two.bad,
+        two.badcheck,
         two.bytes,
         three.frames,
-        three.bad,
+        three.badcheck,
         three.bytes,
         four.frames,
-        four.bad,
+        four.badcheck,
         four.bytes,
         five.frames,
-        five.bad,
+        five.badcheck,
         five.bytes,
         six.frames,
-        six.bad,
+        six.badcheck,
         six.bytes,
         seven.frames,
-        seven.bad,
+        seven.badcheck,
         seven.bytes,
         eight.frames,
-        eight.bad,
+        eight.badcheck,
         eight.bytes,
     ]
 }
@@ -78,7 +78,7 @@ fn tally_at(numbers: [u32; 24], place: usize) -> Tally
 {
     Tally {
         frames: numbers[place],
-        bad: numbers[place + 1],
+        badcheck: numbers[place + 1],
         bytes: numbers[place + 2],
     }
 }

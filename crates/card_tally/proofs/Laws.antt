@@ -27,12 +27,12 @@ cut-twice a b c =
 -- two additions are one
 pub added-twice : (y : Tally) (f b n f′ b′ n′ : ℕ) → added (added y f b n) f′ b′ n′ ≡ added y (f + f′) (b + b′) (n + n′)
 unfolding added
-added-twice y f b n f′ b′ n′ = rw (cut-twice (y .frames) f f′, cut-twice (y .bad) b b′, cut-twice (y .bytes) n n′)
+added-twice y f b n f′ b′ n′ = rw (cut-twice (y .frames) f f′, cut-twice (y .badcheck) b b′, cut-twice (y .bytes) n n′)
 
 -- an addition of nothing leaves a tally of 32 bits
 pub added-nothing : (y : Tally) → Of32Bits y → added y 0 0 0 ≡ y
 unfolding added
-added-nothing y h = rw (same (y .frames) (h .frames), same (y .bad) (h .bad), same (y .bytes) (h .bytes))
+added-nothing y h = rw (same (y .frames) (h .frames), same (y .badcheck) (h .badcheck), same (y .bytes) (h .bytes))
   where
     same : (n : ℕ) → n ≤ largest → cut (n + 0) ≡ n
     same n h = let z : n + 0 ≡ n = omega arith in ap cut z ∙ cut-small n h
@@ -43,4 +43,4 @@ cut-le n = elim (decLe n largest) [ yes le ↦ rw (cut-small n le) le | no gt �
 
 pub added-32-bits : (y : Tally) (f b n : ℕ) → Of32Bits (added y f b n)
 unfolding added
-added-32-bits y f b n = record { frames = cut-le (y .frames + f); bad = cut-le (y .bad + b); bytes = cut-le (y .bytes + n) }
+added-32-bits y f b n = record { frames = cut-le (y .frames + f); badcheck = cut-le (y .badcheck + b); bytes = cut-le (y .bytes + n) }

@@ -16,10 +16,10 @@ cut n = cond (leb n largest) n largest
 
 -- the tally after so many frames, BADCHECK frames and bytes more
 unfoldable pub added : Tally → ℕ → ℕ → ℕ → Tally
-added y frames bad bytes = record { frames = cut (y .frames + frames); bad = cut (y .bad + bad); bytes = cut (y .bytes + bytes) }
+added y frames badcheck bytes = record { frames = cut (y .frames + frames); badcheck = cut (y .badcheck + badcheck); bytes = cut (y .bytes + bytes) }
 
 -- "32 bits each"
 pub record Of32Bits (y : Tally) : Type 0 where
   pub frames : y .frames ≤ largest
-  pub bad : y .bad ≤ largest
+  pub badcheck : y .badcheck ≤ largest
   pub bytes : y .bytes ≤ largest

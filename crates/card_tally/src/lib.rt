@@ -3,7 +3,7 @@
 ghost use mathlib.Core.Path.{_≡_};
 ghost use mathlib.Core.Bool.{false};
 ghost use Prim.Native.Nat.{_+_, _-_, _<_};
-ghost use Rattle.gmp_port.specs.Port.{badPort};
+ghost use Rattle.ports.specs.Port.{badPort};
 ghost use Rattle.card_tally.specs.Tally.{cut, added};
 ghost use Rattle.card_tally.specs.Ports.{newTallies, tallyOf, counted, totalOf, OwnPortOnly};
 
@@ -11,7 +11,7 @@ ghost use Rattle.card_tally.specs.Ports.{newTallies, tallyOf, counted, t
 #[repr(C)]
 pub struct Tally {
     pub frames: u32,
-    pub bad: u32,
+    pub badcheck: u32,
     pub bytes: u32,
 }
 
@@ -24,7 +24,7 @@ pub struct Tallies {
 #[repr(C)]
 pub struct Total {
     pub frames: u64,
-    pub bad: u64,
+    pub badcheck: u64,
     pub bytes: u64,
 }
 
@@ -34,7 +34,7 @@ pub fn new_tallies() -> Tallies
 {
     let tally = Tally {
         frames: 0,
-        bad: 0,
+        badcheck: 0,
         bytes: 0,
     };
     Tallies { ports: [tally; 8] }
@@ -44,10 +44,10 @@ pub fn new_tallies() -> Tallies
 pub fn tally_of(tallies: Tallies, port: u32) -> Tally
     ensures { λ r. ⌜ r ≡ tallyOf tallies port ⌝ }
 {
-    if gmp_port::is_bad_port(port) {
+    if ports::is_bad_port(port) {
         return Tally {
             frames: 0,
-            bad: 0,
+            badcheck: 0,
             bytes: 0,
         };
     }
@@ -57,16 +57,16 @@ pub fn tally_of(tallies: Tallies, port: u32) -> Tally
 
 // The tallies after one frame more of this port, with so many BADCHECK frames and bytes. A port
 // that the card does not have changes nothing.
-pub fn count_frame(tallies: Tallies, port: u32, bad: u32, bytes: u32) -> Tallies
-    ensures { λ r. ⌜ r ≡ counted tallies port 1 bad bytes ⌝ }
+pub fn count_frame(tallies: Tallies, port: u32, badcheck: u32, bytes: u32) -> Tallies
+    ensures { λ r. ⌜ r ≡ counted tallies port 1 badcheck bytes ⌝ }
 {
-    if gmp_port::is_bad_port(port) {
+    if ports::is_bad_port(port) {
         return tallies;
     }
     let place = place_of(port);
     let tally = tallies.ports[place];
     let mut after = tallies;
-    after.ports[place] = add_frame(tally, bad, bytes);
+    after.ports[place] = add_frame(tally, badcheck, bytes);
     after
 }
 
@@ -76,7 +76,7 @@ pub fn card_total(tallies: Tallies) -> Total
 {
     let mut sum = Total {
         frames: 0,
-        bad: 0,
+        badcheck: 0,
         bytes: 0,
     };
     let mut place = 0;
@@ -84,7 +84,7 @@ pub fn card_total(tallies: Tallies) -> Total
         let tally = tallies.ports[place];
         sum = Total {
             frames: sum.frames + tally.frames as u64,
-            bad: sum.bad + tally.bad as u64,
+            badcheck: sum.badcheck + tally.badcheck as u64,
             bytes: sum.bytes + tally.bytes as u64,
         };
         place += 1;
@@ -106,12 +106,12 @@ fn place_of(port: u32) -> usize
 }
 
 // A port's tally after one frame more, with so many BADCHECK frames and bytes.
-fn add_frame(tally: Tally, bad: u32, bytes: u32) -> Tally
-    ensures { λ r. ⌜ r ≡ added tally 1 bad bytes ⌝ }
+fn add_frame(tally: Tally, badcheck: u32, bytes: u32) -> Tally
+    ensures { λ r. ⌜ r ≡ added tally 1 badcheck bytes ⌝ }
 {
     Tally {
         frames: add(tally.frames, 1),
-        bad: add(tally.bad, bad),
+        badcheck: add(tally.badcheck, badcheck),
         bytes: add(tally.bytes, bytes),
     }
 }

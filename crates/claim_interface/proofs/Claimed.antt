@@ -1,7 +1,7 @@
 -- What a caller of the C interface sees is what the claims speak of. Assumes nothing.
 use mathlib.Core.Path.{_≡_}
 use native.Mathlib.Omega.{arith}
-use Rattle.gmp_rate.specs.Rate.{firstRemainder}
+use Rattle.gmp_keeper.specs.Keeper.{firstRemainder}
 use Rattle.claim_interface.specs.Observed.{AsClaimed}
 use Rattle.claim_interface.proofs.Sources as sources
 use Rattle.claim_interface.proofs.Sinks as sinks

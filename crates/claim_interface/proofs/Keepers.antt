@@ -7,13 +7,13 @@ use lib.Dec.{eqb}
 use lib.ListN.{length}
 use borrow.Author.Tests.{eqb-true, eqb-false}
 use Rattle.refusals.specs.Table.{Answer, accepted, refused, answerBy, accepts}
-use Rattle.gmp_rate.specs.Rate.{Kept, keeperRefusal, keeperCall, firstRemainder}
-use Rattle.gmp_rate.specs.Sum.{answered, given, countsFrom, SharedRate, sum}
-use Rattle.gmp_rate.specs.Nearest.{Nearest}
-use Rattle.gmp_rate.proofs.Sum.{totals-are-nearest}
+use Rattle.gmp_keeper.specs.Keeper.{Kept, keeperRefusal, keeperCall, firstRemainder}
+use Rattle.gmp_keeper.specs.Sum.{answered, given, countsFrom, SharedRate, sum}
+use Rattle.gmp_keeper.specs.Nearest.{Nearest}
+use Rattle.gmp_keeper.proofs.Sum.{totals-are-nearest}
 use Rattle.c_settings.specs.Numbers.{settingsFrom}
-use Rattle.c_rate.specs.declared.KeeperReply.{KeeperReply}
-use Rattle.c_rate.specs.Numbers.{keeperReply}
+use Rattle.c_keeper.specs.declared.KeeperReply.{KeeperReply}
+use Rattle.c_keeper.specs.Numbers.{keeperReply}
 use Rattle.claim_interface.specs.Observed.{KeeperGiven, KeeperSeen, KeeperPassed, KeeperShares, keeperOf, keeperCalls, keeperCounts, keeperGiven}
 
 -- a reply tells the count of a call that no number turns back

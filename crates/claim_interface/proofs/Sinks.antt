@@ -14,7 +14,7 @@ use Rattle.gmp_sink.specs.declared.SinkState.{SinkState}
 use Rattle.gmp_sink.specs.Sink.{standingAfter, sinkRefusal, sinkAnswer, sinkMended, sinkHanded, sinkOut}
 use Rattle.gmp_sink.proofs.Laws.{state-refused}
 use Rattle.card_tally.specs.declared.Tallies.{Tallies}
-use Rattle.gmp_port.specs.Port.{ports}
+use Rattle.ports.specs.Port.{ports}
 use Rattle.card_promise.specs.Card.{badFrames, talliesBy, talliesAfter}
 use Rattle.card_tally.proofs.Ports.{own-port-only}
 use Rattle.claim_recovery.specs.Runs.{SinkStep, sinkTakes, sinkAfter, answerOf, mendedOf, handedOf, sinkSteps, sinkEnd}

@@ -10,9 +10,9 @@ use lib.ListN.{length}
 use contract.Lifetimes.{Lfts}
 use denote.Ref.{RefT, at-last}
 use Rattle.gmp_settings.specs.declared.Settings.{Settings}
-use Rattle.gmp_rate.specs.Rate.{keeperCall, firstRemainder}
-use Rattle.gmp_rate.specs.Sum.{KeeperCall, countsFrom, sum}
-use Rattle.gmp_rate.specs.Nearest.{Nearest}
+use Rattle.gmp_keeper.specs.Keeper.{keeperCall, firstRemainder}
+use Rattle.gmp_keeper.specs.Sum.{KeeperCall, countsFrom, sum}
+use Rattle.gmp_keeper.specs.Nearest.{Nearest}
 use Rattle.gmp_source.specs.declared.SourceState.{SourceState}
 use Rattle.gmp_source.specs.Source.{newSource, sourceFrame}
 use Rattle.gmp_payload_type.specs.declared.Expected.{Expected}
@@ -25,10 +25,10 @@ use Rattle.c_source.specs.declared.SourceReply.{SourceReply}
 use Rattle.c_source.specs.Numbers.{startReply, sourceReply}
 use Rattle.c_source.proofs.odu0_source_new.Reads as source-new
 use Rattle.c_source.proofs.odu0_source_call.Reads as source-call
-use Rattle.c_rate.specs.declared.KeeperReply.{KeeperReply}
-use Rattle.c_rate.specs.Numbers.{keeperReply}
-use Rattle.c_rate.proofs.odu0_keeper_new.Reads as keeper-new
-use Rattle.c_rate.proofs.odu0_keeper_call.Reads as keeper-call
+use Rattle.c_keeper.specs.declared.KeeperReply.{KeeperReply}
+use Rattle.c_keeper.specs.Numbers.{keeperReply}
+use Rattle.c_keeper.proofs.odu0_keeper_new.Reads as keeper-new
+use Rattle.c_keeper.proofs.odu0_keeper_call.Reads as keeper-call
 use Rattle.c_sink_numbers.specs.declared.SinkNumbers.{SinkNumbers}
 use Rattle.c_sink_numbers.specs.declared.SinkReply.{SinkReply}
 use Rattle.c_sink_numbers.specs.Numbers.{stateFrom, stateNumbers, talliesFrom, talliesNumbers, InterfacePromise}

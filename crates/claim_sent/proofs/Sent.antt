@@ -4,9 +4,9 @@ use mathlib.Core.List.{List, [], _∷_}
 use Prim.Native.Nat.{ℕ, suc}
 use lib.ListN.{length, take}
 use Rattle.gmp_settings.specs.declared.Settings.{Settings}
-use Rattle.gmp_rate.specs.Rate.{firstRemainder}
-use Rattle.gmp_rate.specs.Sum.{sum, roundedTotal}
-use Rattle.gmp_rate.proofs.Sum.{counts-add-up}
+use Rattle.gmp_keeper.specs.Keeper.{firstRemainder}
+use Rattle.gmp_keeper.specs.Sum.{sum, roundedTotal}
+use Rattle.gmp_keeper.proofs.Sum.{counts-add-up}
 use Rattle.gmp_source.specs.declared.SourceState.{SourceState}
 use Rattle.gmp_source.proofs.Laws.{accepted-knows}
 use Rattle.claim_recovery.specs.Runs.{SourceCall, SourceStep, sourceSteps}

@@ -5,8 +5,8 @@ use mathlib.Core.List.{List, [], _∷_}
 use Prim.Native.Nat.{ℕ, _<_}
 use lib.ListN.{length, take}
 use Rattle.gmp_settings.specs.declared.Settings.{Settings}
-use Rattle.gmp_rate.specs.Rate.{firstRemainder}
-use Rattle.gmp_rate.specs.Sum.{KeeperCall, SharedRate, countsFrom, sum, roundedTotal}
+use Rattle.gmp_keeper.specs.Keeper.{firstRemainder}
+use Rattle.gmp_keeper.specs.Sum.{KeeperCall, SharedRate, countsFrom, sum, roundedTotal}
 use Rattle.gmp_source.specs.declared.SourceState.{SourceState}
 use Rattle.claim_recovery.specs.Runs.{SourceCall, SourceStep, sourceSteps, loadOf, countOf}
 use Rattle.claim_recovery.specs.Demand.{SourceRun}

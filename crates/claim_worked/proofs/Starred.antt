@@ -10,8 +10,8 @@ use Rattle.gmp_control.specs.Word.{equalIndicators}
 use Rattle.gmp_control.specs.Pattern.{tableOf}
 use Rattle.gmp_control.specs.Announce.{announced}
 use Rattle.gmp_control.specs.Follow.{usable, tracked, candidate, paired, reached, foundBy}
-use Rattle.gmp_rate.specs.Rate.{keeperRefusal, keeperCall}
-use Rattle.gmp_rate.specs.Sum.{countsFrom}
+use Rattle.gmp_keeper.specs.Keeper.{keeperRefusal, keeperCall}
+use Rattle.gmp_keeper.specs.Sum.{countsFrom}
 use Rattle.gmp_source.specs.Source.{controlBytes}
 use Rattle.gmp_sink.specs.Sink.{standingAfter, stateAfter}
 use Rattle.claim_worked.specs.Starred.{AllHold, starred, reads, carrying}

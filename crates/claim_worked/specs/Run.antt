@@ -18,7 +18,7 @@ use Rattle.gmp_control.specs.declared.Remembered.the-variants.{Word}
 use Rattle.gmp_payload_type.specs.declared.Expected.{Expected}
 use Rattle.gmp_payload_type.specs.Types.{newTypes}
 use Rattle.gmp_source.specs.declared.SourceState.{SourceState}
-use Rattle.gmp_port.specs.Port.{ports}
+use Rattle.ports.specs.Port.{ports}
 use Rattle.card_tally.specs.declared.Tally.{Tally}
 use Rattle.card_tally.specs.declared.Tallies.{Tallies}
 use Rattle.card_tally.specs.Tally.{largest}
@@ -154,7 +154,7 @@ abbrev pub onCard : List SinkStep
 onCard = inTurn (made newSink fromFirst) (inTurn (made lost fromAny) (made newSink noisy))
 
 abbrev pub tally : ℕ → ℕ → ℕ → Tally
-tally frames bad bytes = record { frames = frames; bad = bad; bytes = bytes }
+tally frames bad bytes = record { frames = frames; badcheck = bad; bytes = bytes }
 
 -- the largest numbers on every port
 abbrev pub fullCard : Tallies
@@ -191,5 +191,5 @@ pub record WorkedRun : Type 0 where
   -- their sum; that of full tallies exceeds 32 bits
   pub tallies : talliesEnd newTallies onCard
       ≡ record { ports = tally 6 0 17 ∷ noTally ∷ tally 1 0 0 ∷ noTally ∷ tally 5 0 18 ∷ noTally ∷ noTally ∷ tally 3 1 0 ∷ [] }
-  pub total : totalOf (talliesEnd newTallies onCard) ≡ record { frames = 15; bad = 1; bytes = 35 }
-  pub full-total : totalOf fullCard ≡ record { frames = 34359738360; bad = 34359738360; bytes = 34359738360 }
+  pub total : totalOf (talliesEnd newTallies onCard) ≡ record { frames = 15; badcheck = 1; bytes = 35 }
+  pub full-total : totalOf fullCard ≡ record { frames = 34359738360; badcheck = 34359738360; bytes = 34359738360 }

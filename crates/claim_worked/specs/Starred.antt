@@ -13,9 +13,9 @@ use Rattle.gmp_control.specs.Worked.{wide}
 use Rattle.gmp_places.specs.Places.{carries}
 use Rattle.gmp_frame.specs.declared.Control.{Control}
 use Rattle.gmp_payload_type.specs.Types.{newTypes}
-use Rattle.gmp_rate.specs.Rate.{firstRemainder}
-use Rattle.gmp_rate.specs.Sum.{countsFrom}
-use Rattle.gmp_rate.specs.Worked.{gigabit}
+use Rattle.gmp_keeper.specs.Keeper.{firstRemainder}
+use Rattle.gmp_keeper.specs.Sum.{countsFrom}
+use Rattle.gmp_keeper.specs.Worked.{gigabit}
 use Rattle.gmp_source.specs.Source.{controlBytes}
 use Rattle.gmp_sink.specs.declared.SinkState.{SinkState}
 use Rattle.gmp_sink.specs.Sink.{newSink, standingAfter, stateAfter}

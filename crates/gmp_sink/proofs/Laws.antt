@@ -20,7 +20,7 @@ use Rattle.refusals.specs.Table.{accepted, refused, answerBy}
 use Rattle.gmp_refusal.specs.Refusal.{refusalNumber}
 use Rattle.gmp_settings.specs.Settings.{Fit, withTypeCheck, outside}
 use Rattle.gmp_settings.specs.Patterns.{badPatterns}
-use Rattle.gmp_port.specs.Port.{badPort}
+use Rattle.ports.specs.Port.{badPort}
 use Rattle.refusals.proofs.Laws.{none-applies}
 use Rattle.gmp_settings.proofs.Laws.{all-passed, settings-fit, inside-window}
 use Rattle.gmp_standing.specs.declared.Count.{Count}

@@ -17,7 +17,7 @@ use Rattle.refusals.specs.Table.{Reason, reason, lowest, Answer, accepted, refu
 use Rattle.gmp_refusal.specs.Refusal.{refusalNumber}
 use Rattle.gmp_settings.specs.Settings.{settingsReasons, withTypeCheck}
 use Rattle.gmp_settings.specs.Patterns.{badPatterns}
-use Rattle.gmp_port.specs.Port.{badPort}
+use Rattle.ports.specs.Port.{badPort}
 use Rattle.gmp_standing.specs.declared.Count.{Count}
 use Rattle.gmp_standing.specs.declared.Count.the-variants.{Known, Unknown}
 use Rattle.gmp_standing.specs.Standing.{Finding, finding, BADCHECK, standingMeaning}

@@ -13,7 +13,7 @@ pub fn judge_call(settings: Settings, frame_length: usize, space: usize, port: u
     let fit = gmp_settings_judge::judge_grid_and_window(settings);
     let length = gmp_settings_judge::frame_length(settings);
     let too_short = space < settings.hi as usize;
-    let bad_port = gmp_port::is_bad_port(port);
+    let bad_port = ports::is_bad_port(port);
     let bad_patterns = gmp_settings_judge::is_bad_patterns(settings);
     let frame = gmp_refusal::refuse_if(fit, frame_length != length, Refusal::Frame);
     let out = gmp_refusal::refuse_if(frame, too_short, Refusal::Space);

@@ -356,6 +356,6 @@ fn show_type(frame_number: u64, before: AcceptedType, after: AcceptedType) {
 // Says the tally: frames taken, BADCHECK frames and bytes handed out.
 fn show_tally(tally: Tally) {
     program_stream::say(b"odu0demap: frames ", tally.frames as u64);
-    program_stream::say(b", BADCHECK ", tally.bad as u64);
+    program_stream::say(b", BADCHECK ", tally.badcheck as u64);
     program_stream::say_line(b", bytes ", tally.bytes as u64);
 }

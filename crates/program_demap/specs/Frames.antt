@@ -40,7 +40,7 @@ handedBytes w d frame = released (settingsOf w) (d .state) (expectedOf w d) fram
 
 -- a new sink, with nothing tallied and no standing yet; its first frame is numbered 0
 abbrev pub newDemapper : Demapper
-newDemapper = record { state = newSink; tally = record { frames = 0; bad = 0; bytes = 0 }; last = 0; multiframe = 0 }
+newDemapper = record { state = newSink; tally = record { frames = 0; badcheck = 0; bytes = 0 }; last = 0; multiframe = 0 }
 
 -- the number after a multiframe number: 0 after 255
 abbrev pub numberAfter : ℕ → ℕ

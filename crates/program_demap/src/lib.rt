@@ -43,7 +43,7 @@ pub fn new_demapper() -> Demapper
         state: state,
         tally: Tally {
             frames: 0,
-            bad: 0,
+            badcheck: 0,
             bytes: 0,
         },
         last: 0,

@@ -16,10 +16,10 @@ use Rattle.gmp_refusal.specs.Refusal.{refusalNumber}
 use Rattle.gmp_settings.specs.Settings.{opu0, outside}
 use Rattle.refusals.proofs.Laws.{none-applies}
 use Rattle.gmp_settings.proofs.Laws.{all-passed}
-use Rattle.gmp_rate.specs.declared.KeeperResult.{KeeperResult}
-use Rattle.gmp_rate.specs.declared.KeeperAnswer.the-variants.{Next, Refused}
-use Rattle.gmp_rate.specs.Rate.{badDivisor, badRate, badRemainder, keeperReasons, keeperRefusal, Kept, answerMeaning, resultMeaning, keeperCall, firstRemainder}
-use Rattle.gmp_rate.proofs.Laws.{accepted-knows, count-inside, call-accepted}
+use Rattle.gmp_keeper.specs.declared.KeeperResult.{KeeperResult}
+use Rattle.gmp_keeper.specs.declared.KeeperAnswer.the-variants.{Next, Refused}
+use Rattle.gmp_keeper.specs.Keeper.{badDivisor, badRate, badRemainder, keeperReasons, keeperRefusal, Kept, answerMeaning, resultMeaning, keeperCall, firstRemainder}
+use Rattle.gmp_keeper.proofs.Laws.{accepted-knows, count-inside, call-accepted}
 use Rattle.gmp_source.specs.declared.SourceState.{SourceState}
 use Rattle.gmp_source.specs.declared.SourceResult.{SourceResult}
 use Rattle.gmp_source.specs.declared.SourceStart.{SourceStart}

@@ -6,7 +6,7 @@ use Prim.Native.Nat.{ℕ, _+_, _/_, _%_}
 use Rattle.refusals.specs.Table.{Answer, accepted, refused, answerBy}
 use Rattle.gmp_refusal.specs.Refusal.{refusalNumber}
 use Rattle.gmp_settings.specs.Settings.{opu0, outside}
-use Rattle.gmp_rate.specs.Rate.{keeperRefusal, firstRemainder}
+use Rattle.gmp_keeper.specs.Keeper.{keeperRefusal, firstRemainder}
 use Rattle.gmp_source.specs.Source.{startState, nextState, written}
 use Rattle.program_map.specs.declared.Rate.{Rate}
 use Rattle.program_map.specs.declared.Mapper.{Mapper}

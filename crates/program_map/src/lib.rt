@@ -1,6 +1,6 @@
 // A load of OPU0 to the source, at the count that the rate keeper gives, as the program odu0map
 // maps it.
-use gmp_rate::KeeperAnswer;
+use gmp_keeper::KeeperAnswer;
 use gmp_refusal::Refusal;
 use gmp_source::SourceStart;
 use gmp_source::SourceState;
@@ -31,11 +31,11 @@ pub enum Start {
 pub fn new_mapper(rate: Rate) -> Start
     ensures { λ r. ⌜ startMeaning r ≡ startAnswer rate ⌝ }
 {
-    let kept = gmp_rate_call::next_count(
+    let kept = gmp_keeper_call::next_count(
         gmp_settings::opu0(),
         rate.p,
         rate.q,
-        gmp_rate_call::first_remainder(rate.q),
+        gmp_keeper_call::first_remainder(rate.q),
     );
     let answer = kept.answer;
     let remainder = kept.remainder;
@@ -59,7 +59,7 @@ pub fn new_mapper(rate: Rate) -> Start
 pub fn make_frame(rate: Rate, mapper: Mapper, load: &[u8], frame: &mut [u8]) -> Mapper
     ensures { λ r. ⌜ (Ready rate mapper → length (now (load .entry)) ≡ mapper .source .count → length (now (frame .entry)) ≡ 15240 → Maps rate mapper (now (load .entry)) r (now (frame .exit))) ⌝ }
 {
-    let kept = gmp_rate_call::next_count(gmp_settings::opu0(), rate.p, rate.q, mapper.remainder);
+    let kept = gmp_keeper_call::next_count(gmp_settings::opu0(), rate.p, rate.q, mapper.remainder);
     let answer = kept.answer;
     let KeeperAnswer::Next(next) = answer else {
         return mapper;

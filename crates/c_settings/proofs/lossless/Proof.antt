@@ -24,10 +24,10 @@ unfolding settingsFrom patternsFrom
 settings-back k lo hi Standard b c = rw (flag-back b, flag-back c)
 settings-back k lo hi (Given p) b c = rw (flag-back b, flag-back c)
 
-no-flag : (x : SettingsNumbers) → x .given ≡ 0
+no-flag : (x : SettingsNumbers) → x .«has_patterns» ≡ 0
     → settingsFrom x ≡ withTypeCheck (withMending (newSettings (x .k) (x .lo) (x .hi)) (not (eqb (x .mending) 0))) (not (eqb (x .«type_check») 0))
 unfolding settingsFrom patternsFrom
-no-flag x e = rw (eq-eqb (x .given) 0 e)
+no-flag x e = rw (eq-eqb (x .«has_patterns») 0 e)
 
 returns : tie.Need-returns
 returns c = record { settings = λ s. settings-back (s .k) (s .lo) (s .hi) (s .patterns) (s .mending) (s .«type_check»); standard = no-flag }

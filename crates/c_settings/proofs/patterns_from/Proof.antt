@@ -16,7 +16,7 @@ returns : tie.Need-returns
 unfolding patternsFrom
 returns c =
     let x = c .before .before .before .args .numbers in
-    rw (eq-eqb (x .given) 0 (omega (arith, c .if1 .taken))) (c .before .before .new-settings .ensures)
+    rw (eq-eqb (x .«has_patterns») 0 (omega (arith, c .if1 .taken))) (c .before .before .new-settings .ensures)
 
 with-patterns-requires : tie.Need-with-patterns-requires
 with-patterns-requires c κs = search needs
@@ -25,7 +25,7 @@ returns-2 : tie.Need-returns-2
 unfolding patternsFrom
 returns-2 c =
     let x = c .before .before .before .before .args .numbers in
-    rw (ne-eqb (x .given) 0 (λ e. omega (arith, c .before .if1 .left)))
+    rw (ne-eqb (x .«has_patterns») 0 (λ e. omega (arith, c .before .if1 .left)))
     (c .with-patterns .ensures ∙ ap (λ (s : Settings). withPatterns s (fourFrom x)) (c .before .before .before .new-settings .ensures))
 
 pub patterns-from-spec : {M : Type 1} → statement M

@@ -25,7 +25,7 @@ module _ (s : Settings) (z : SinkState) (frame out : List ℕ) (port : ℕ) (m :
   unfolding talliesAfter
   tallied e y =
       let n : ℕ = length (sinkHanded s z e frame out port) in
-      ap (λ (a : Answer Finding). talliesBy a port n y) (answers .1) ∙ ap (λ (bad : ℕ). counted y port 1 bad n) (answers .2)
+      ap (λ (a : Answer Finding). talliesBy a port n y) (answers .1) ∙ ap (λ (badcheck : ℕ). counted y port 1 badcheck n) (answers .2)
 
 returns : tie.Need-returns
 returns c = record { standing = answers; tallies = λ s z e frame out port y m. tallied s z frame out port m e y }

@@ -10,7 +10,7 @@ use Rattle.card_tally.proofs.card_total.Tie as tie
 
 abbrev Inv-loop : tie.InvT-loop
 Inv-loop tallies sum₀ place₀ sum place =
-    (place ≤ 8) × Sums (λ t. t .frames) tallies place (sum .frames) × Sums (λ t. t .bad) tallies place (sum .bad) × Sums (λ t. t .bytes) tallies place (sum .bytes)
+    (place ≤ 8) × Sums (λ t. t .frames) tallies place (sum .frames) × Sums (λ t. t .badcheck) tallies place (sum .badcheck) × Sums (λ t. t .bytes) tallies place (sum .bytes)
 
 abbrev μ-loop : tie.MeasureT-loop
 μ-loop tallies sum₀ place₀ sum place = 8 - place
@@ -18,7 +18,7 @@ abbrev μ-loop : tie.MeasureT-loop
 loop-holds : tie.Need-loop-holds Inv-loop μ-loop
 loop-holds c =
     let y = c .args .t1 in
-    (omega arith, sums-none (λ t. t .frames) y, sums-none (λ t. t .bad) y, sums-none (λ t. t .bytes) y)
+    (omega arith, sums-none (λ t. t .frames) y, sums-none (λ t. t .badcheck) y, sums-none (λ t. t .bytes) y)
 
 mul-tally : tie.Need-mul-tally Inv-loop μ-loop
 mul-tally c = search needs
@@ -58,7 +58,7 @@ loop-again c =
     let fits = c .before .struct-known5 .given in (
       omega (arith, below),
       sums-next (λ t. t .frames) y (l .place) (l .sum .frames) (l .inv .1) below (omega (arith, fits .0 .fits)),
-      sums-next (λ t. t .bad) y (l .place) (l .sum .bad) (l .inv .2) below (omega (arith, fits .1 .0 .fits)),
+      sums-next (λ t. t .badcheck) y (l .place) (l .sum .badcheck) (l .inv .2) below (omega (arith, fits .1 .0 .fits)),
       sums-next (λ t. t .bytes) y (l .place) (l .sum .bytes) (l .inv .3) below (omega (arith, fits .1 .1 .0 .fits)),
     )
 

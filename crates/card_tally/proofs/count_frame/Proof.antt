@@ -12,7 +12,7 @@ returns : tie.Need-returns
 returns c =
     let g = c .before .before .args in
     let none = sym (c .before .is-bad-port .ensures) ∙ c .if1 .taken in
-    sym (counted-none (g .t1) (g .port) 1 (g .bad) (g .bytes) none)
+    sym (counted-none (g .t1) (g .port) 1 (g .badcheck) (g .bytes) none)
 
 place-of-requires : tie.Need-place-of-requires
 place-of-requires c κs = sym (c .before .is-bad-port .ensures) ∙ c .if1 .left
@@ -37,7 +37,7 @@ returns-2 c =
     let g = c .before .before .before .before .before .args in
     let known = sym (c .before .before .before .before .is-bad-port .ensures) ∙ c .before .before .before .if1 .left in
     let place = c .before .before .place-of in
-    counted-at (g .t1) (g .port) 1 (g .bad) (g .bytes) known (place .result) (place .ensures .0) _ (c .add-frame .ensures)
+    counted-at (g .t1) (g .port) 1 (g .badcheck) (g .bytes) known (place .result) (place .ensures .0) _ (c .add-frame .ensures)
 
 pub count-frame-spec : {M : Type 1} → statement M
 count-frame-spec =

@@ -1,6 +1,6 @@
 -- `card_tally::place_of` meets its contract. Assumes nothing.
 use native.Mathlib.Omega.{arith}
-use Rattle.gmp_port.proofs.Laws.{within-ports}
+use Rattle.ports.proofs.Laws.{within-ports}
 use Rattle.card_tally.proofs.place_of.Statement.{statement}
 use Rattle.card_tally.proofs.place_of.Tie as tie
 

@@ -7,7 +7,7 @@ use borrow.Author.Needs.{needs}
 use Rattle.refusals.proofs.Laws.{line}
 use Rattle.gmp_settings.specs.Grid.{frameBytes}
 use Rattle.gmp_settings.specs.Patterns.{badPatterns}
-use Rattle.gmp_port.specs.Port.{badPort}
+use Rattle.ports.specs.Port.{badPort}
 use Rattle.gmp_settings.proofs.Laws.{settings-judged}
 use Rattle.gmp_sink.specs.Sink.{sinkRefusal}
 use Rattle.gmp_sink_judge.proofs.judge_call.Statement.{statement}

@@ -10,7 +10,7 @@ new-sink-requires : tie.Need-new-sink-requires
 new-sink-requires c κs = search needs
 
 returns : tie.Need-returns
-returns c = ap {B = Demapper} (λ (z : SinkState). record { state = z; tally = record { frames = 0; bad = 0; bytes = 0 }; last = 0; multiframe = 0 }) (c .new-sink .ensures)
+returns c = ap {B = Demapper} (λ (z : SinkState). record { state = z; tally = record { frames = 0; badcheck = 0; bytes = 0 }; last = 0; multiframe = 0 }) (c .new-sink .ensures)
 
 pub new-demapper-spec : {M : Type 1} → statement M
 new-demapper-spec = tie.close (tie.spec new-sink-requires returns)
