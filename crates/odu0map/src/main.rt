@@ -235,11 +235,11 @@ fn show_refusal(refusal: Refusal) {
 
 // Writes the name of a refusal to standard error.
 fn show_name(refusal: Refusal) {
-    let place = gmp_refusal::refusal_place(refusal) as usize - 1;
+    let place = gmp_refusal::refusal_place(refusal) as usize;
     let names: &[u8] = &NAMES;
-    let start = 8 * place;
-    let end = start + NAME_LENGTHS[place];
-    io::write_all(STDERR_FILENO, &names[start..end]);
+    let lengths: &[usize] = &NAME_LENGTHS;
+    let name = program_name::name_of(names, lengths, place);
+    io::write_all(STDERR_FILENO, name);
 }
 
 // Says how the program is called.

@@ -25,11 +25,11 @@ pub fn put_change(line: &mut [u8], frame_number: u64, standing: Standing, was_me
 fn put_name(line: &mut [u8], at: usize, standing: Standing) -> usize
     ensures { λ r. ⌜ Counts r (now (line .exit)) ⌝ }
 {
-    let place = gmp_standing::standing_number(standing) as usize - 1;
+    let number = gmp_standing::standing_number(standing) as usize;
     let names: &[u8] = &NAMES;
-    let start = 8 * place;
-    let end = start + NAME_LENGTHS[place];
-    put(line, at, &names[start..end])
+    let lengths: &[usize] = &NAME_LENGTHS;
+    let name = program_name::name_of(names, lengths, number);
+    put(line, at, name)
 }
 
 // Puts a space and the count found there, or "-" where there is none.

@@ -226,11 +226,11 @@ fn put_name(line: &mut [u8], at: usize, standing: Standing) -> usize
     requires { ⌜ at + 8 ≤ length (now line) ⌝ }
     ensures { λ r. ⌜ Puts (now (line .entry)) at (standingMeaning standing .name) r (now (line .exit)) ⌝ }
 {
-    let place = gmp_standing::standing_number(standing) as usize - 1;
+    let number = gmp_standing::standing_number(standing) as usize;
     let names: &[u8] = &NAMES;
-    let start = 8 * place;
-    let end = start + NAME_LENGTHS[place];
-    put(line, at, &names[start..end])
+    let lengths: &[usize] = &NAME_LENGTHS;
+    let name = program_name::name_of(names, lengths, number);
+    put(line, at, name)
 }
 
 // Puts the count that a standing found there, or "-" where it found none.

@@ -1,9 +1,10 @@
 -- `sinkshow::put_name` meets its contract. Assumes nothing.
-use mathlib.Core.Path.{ap}
+use mathlib.Core.Path.{_∙_, ap}
 use native.Mathlib.Omega.{arith}
 use lib.ListN.{length}
 use borrow.Author.Needs.{needs}
 use Rattle.gmp_standing.proofs.Names.{named}
+use Rattle.program_name.proofs.Laws.{named-is}
 use Rattle.sinkshow.proofs.Laws.{name-within}
 use Rattle.sinkshow.proofs.put_name.Statement.{statement}
 use Rattle.sinkshow.proofs.put_name.Tie as tie
@@ -11,68 +12,41 @@ use Rattle.sinkshow.proofs.put_name.Tie as tie
 standing-number-requires : tie.Need-standing-number-requires
 standing-number-requires c κs = search needs
 
-cast-place : tie.Need-cast-place
-cast-place c = search needs
-
-sub-place : tie.Need-sub-place
-sub-place c = named (c .before .before .args .standing) _ (c .standing-number .ensures) .from-one
+cast-number : tie.Need-cast-number
+cast-number c = search needs
 
 slice-aggregate-names : tie.Need-slice-aggregate-names
 slice-aggregate-names c = search needs
 
-mul-start : tie.Need-mul-start
-mul-start c = search needs
+slice-aggregate-lengths : tie.Need-slice-aggregate-lengths
+slice-aggregate-lengths c = search needs
 
-mul-end : tie.Need-mul-end
-mul-end c = search needs
-
-array-read-end : tie.Need-array-read-end
-array-read-end c =
-    let w = named (c .before .before .before .args .standing) _ (c .before .standing-number .ensures) in
-    omega (arith, w .from-one, w .to-last)
-
-add-end : tie.Need-add-end
-add-end c =
-    let w = named (c .before .before .before .args .standing) _ (c .before .standing-number .ensures) in
-    record { fits = omega (arith, w .within) }
-
-sub-put : tie.Need-sub-put
-sub-put c = search needs
-
-part-put-start : tie.Need-part-put-start
-part-put-start c = search needs
-
-part-put-end : tie.Need-part-put-end
-part-put-end c = named (c .before .before .before .before .args .standing) _ (c .before .before .standing-number .ensures) .within
+name-of-requires : tie.Need-name-of-requires
+name-of-requires c κs = search needs
 
 put-requires : tie.Need-put-requires
 put-requires c κs =
-    let start = c .before .before .before .before .before in
-    let w = named (c .before .before .before .before .before .args .standing) _ (c .before .before .before .standing-number .ensures) in
-    omega (arith, ap length (w .content), name-within (start .args .standing), start .pre)
+    let start = c .before .before .before .before .before .before in
+    let w = named-is _ _ _ _ (named (start .args .standing) _ (c .before .before .before .before .standing-number .ensures)) in
+    omega (arith, ap length (c .before .name-of .ensures ∙ w), name-within (start .args .standing), start .pre)
 
 same-length : tie.Need-same-length
 same-length c = search needs
 
 returns : tie.Need-returns
 returns c =
-    rw (← named (c .before .before .before .before .before .before .before .before .args .standing) _ (c .before .before .before .before .before .before .standing-number .ensures) .content) (c .before .before .put .ensures)
+    let w = named-is _ _ _ _ (named (c .before .before .before .before .before .before .before .before .before .args .standing) _ (c .before .before .before .before .before .before .before .standing-number .ensures)) in
+    rw (← (c .before .before .before .before .name-of .ensures ∙ w)) (c .before .before .put .ensures)
 
 pub put-name-spec : {M : Type 1} → statement M
 put-name-spec =
     tie.close
     (tie.spec
     standing-number-requires
-    cast-place
-    sub-place
+    cast-number
     slice-aggregate-names
-    mul-start
-    mul-end
-    array-read-end
-    add-end
-    sub-put
-    part-put-start
-    part-put-end
+    slice-aggregate-lengths
+    name-of-requires
     put-requires
     same-length
     returns)

@@ -1,0 +1,2 @@
+-- A name out of a text of names. Assumes nothing.
+pub mod Name
