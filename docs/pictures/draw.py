@@ -28,10 +28,10 @@ CLIENT, STUFF, CONTROL, OVER, HIT = "#cfe3f7", "#ffffff", "#f7dfb2", "#e6e6e6", 
 BYTES = "#2f6fb0"
 
 # The groups of crates from the top down: title, colour, and the names or prefixes of its crates.
-# That without names has the crates that no other has, and is drawn if there are such crates.
+# A program is one with a main.rt; the group without names has the crates that no other has.
 GROUPS = [
     ("Claims over whole runs", "#f9d9d4", ("claim_",)),
-    ("Programs", "#dcefd8", ("sinkshow", "odu0map", "odu0demap", "program_")),
+    ("Programs", "#dcefd8", ("program_",)),
     ("The interface for C and Rust", "#e7dcf3", ("c_",)),
     ("Components beside the mapper", "#f6f0c4", ()),
     ("The card: the sink with a tally for each port", "#d5edec", ("card_",)),
@@ -472,6 +472,8 @@ def types():
 
 def group_of(name):
     """The number of a crate's group in GROUPS."""
+    is_program = (CRATES.parent / "crates" / name / "src" / "main.rt").exists()
+    name = "program_" if is_program else name
     for number, (_, _, keys) in enumerate(GROUPS):
         if any(name == key or key[-1] == "_" and name.startswith(key) for key in keys):
             return number
