@@ -28,10 +28,12 @@ CLIENT, STUFF, CONTROL, OVER, HIT = "#cfe3f7", "#ffffff", "#f7dfb2", "#e6e6e6", 
 BYTES = "#2f6fb0"
 
 # The groups of crates from the top down: title, colour, and the names or prefixes of its crates.
+# A program is one with a main.rt; the group without names has the crates that no other has.
 GROUPS = [
     ("Claims over whole runs", "#f9d9d4", ("claim_",)),
-    ("Programs", "#dcefd8", ("sinkshow", "odu0map", "odu0demap", "program_")),
+    ("Programs", "#dcefd8", ("program_",)),
     ("The interface for C and Rust", "#e7dcf3", ("c_",)),
+    ("Components beside the mapper", "#f6f0c4", ()),
     ("The card: the sink with a tally for each port", "#d5edec", ("card_",)),
     ("The generic mapper", CLIENT, ("gmp_",)),
     ("The floor", OVER, ("math", "refusals", "ports")),
@@ -469,10 +471,13 @@ def types():
 
 
 def group_of(name):
+    """The number of a crate's group in GROUPS."""
+    is_program = (CRATES.parent / "crates" / name / "src" / "main.rt").exists()
+    name = "program_" if is_program else name
     for number, (_, _, keys) in enumerate(GROUPS):
         if any(name == key or key[-1] == "_" and name.startswith(key) for key in keys):
             return number
-    sys.exit(f"draw.py: crates.txt lists {name}, which belongs to none of GROUPS")
+    return [keys for _, _, keys in GROUPS].index(())
 
 
 def read_crates():
@@ -579,7 +584,7 @@ def ordered(rows, arrows):
 
 def band(p, top, right, group, rests, others):
     """A group of crates: a box for each, and the arrows between them. Answers its lower edge."""
-    title, fill, _ = GROUPS[group]
+    title, fill, _ = group
     rows, arrows = layers(rests)
     rows = ordered(rows, arrows)
     left, high = 10, 36
@@ -623,10 +628,12 @@ def crates():
     """The groups of crates: which group rests on which, and in a group which crate on which."""
     rests = read_crates()
     direct = reduced(rests)
-    groups = {g: [name for name in rests if group_of(name) == g] for g in range(len(GROUPS))}
+    drawn = sorted({group_of(name) for name in rests})
+    at = {name: drawn.index(group_of(name)) for name in rests}
+    groups = {g: [name for name in rests if at[name] == g] for g in range(len(drawn))}
     over = reduced(
         {
-            g: sorted({group_of(other) for name in names for other in rests[name]} - {g})
+            g: sorted({at[other] for name in names for other in rests[name]} - {g})
             for g, names in groups.items()
         }
     )
@@ -644,7 +651,7 @@ def crates():
         right = min((lane[up, low] for up, low in passing if up < g < low), default=WIDTH + 6)
         within = {name: [other for other in direct[name] if other in names] for name in names}
         others = {name: [other for other in direct[name] if other not in names] for name in names}
-        tops[g], ends[g] = y, band(p, y, right - 16, g, within, others)
+        tops[g], ends[g] = y, band(p, y, right - 16, GROUPS[drawn[g]], within, others)
         y = ends[g] + 24
     for (upper, lower), x in lane.items():
         p.arrow((x, ends[upper]), (x, tops[lower]), width=2)

@@ -1,5 +1,5 @@
-// The settings for C and Rust: numbers in. All meaning is in the crates below; here values are only
-// converted.
+// The settings for C and Rust: numbers in, and that all settings can be said so. All meaning is in
+// the crates below; here values are only converted.
 use gmp_settings::FourPatterns;
 use gmp_settings::Settings;
 ghost use mathlib.Core.Path.{_≡_};

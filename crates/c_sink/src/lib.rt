@@ -1,5 +1,5 @@
-// The sink for C and Rust: numbers and buffers in, numbers out. All meaning is in the crates below;
-// here values are only converted.
+// The sink with the card's tallies for C and Rust: numbers and buffers in, numbers out. All meaning
+// is in the crates below; here values are only converted.
 use c_settings::SettingsNumbers;
 use c_sink_numbers::SinkNumbers;
 use c_sink_numbers::SinkReply;

@@ -1,5 +1,5 @@
-// The sink's state and its reply as the plain numbers that C and Rust see. The calls are in the
-// crate c_sink.
+// The sink's state, its reply and the tallies as the plain numbers that C and Rust see, and that
+// what crosses can be read back. The calls are in the crate c_sink.
 ghost use Rattle.c_sink_numbers.specs.Lossless.{Lossless};
 
 // A sink's state: a flag, 0 for none, beside the count, beside the remembered word and beside the

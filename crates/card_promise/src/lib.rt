@@ -1,5 +1,5 @@
-// What the sink's call with the card's tallies promises. The calls are in the crates card_count and
-// card_sink.
+// What the sink's call with the card's tallies promises: its definitions, and that a mended frame
+// is no BADCHECK frame in the tallies. The calls are in the crates card_count and card_sink.
 ghost use Rattle.card_promise.specs.Card.{MendedIsGood};
 
 // A mended frame is no BADCHECK frame, in its standing or in the tallies.

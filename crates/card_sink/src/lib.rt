@@ -1,4 +1,5 @@
-// The sink's call with the card's tallies, lent to it where the caller keeps them.
+// The sink's call with the tallies of the card's ports, lent to it where the caller keeps them, and
+// for a caller that keeps them by value.
 use card_count::Counted;
 use card_tally::Tallies;
 use gmp_payload_type::Expected;

@@ -1,5 +1,6 @@
 // The card's tallies, one for each port: frames taken, BADCHECK frames and bytes handed out, each
-// staying at its largest number; and the card's total.
+// staying at its largest number; the card's total; and that a frame changes its own port's tally
+// only.
 ghost use mathlib.Core.Path.{_≡_};
 ghost use mathlib.Core.Bool.{false};
 ghost use Prim.Native.Nat.{_+_, _-_, _<_};

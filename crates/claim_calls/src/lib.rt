@@ -1,5 +1,5 @@
-// The calls make the runs that the claims are about, and such lists of calls there are, each as the
-// contract of a function with an empty body.
+// That calls which keep their contracts make the runs that the claims are about, that such lists of
+// calls there are, and what they tell, each as the contract of a function with an empty body.
 ghost use Rattle.claim_calls.specs.Observed.{AsDefined};
 ghost use Rattle.claim_calls.specs.Worked.{WorkedSeen};
 

@@ -1,5 +1,6 @@
-// The sum of the counts of observed calls of the rate keeper, and that such calls there are, each
-// as the contract of a function with an empty body.
+// That calls of the rate keeper which keep their contracts give counts that add up, to the nearest
+// whole number, and that such calls there are, each as the contract of a function with an empty
+// body.
 ghost use Rattle.claim_keeper.specs.Observed.{ObservedCounts};
 ghost use Rattle.claim_keeper.specs.Worked.{WorkedCalls};
 

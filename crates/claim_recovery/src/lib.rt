@@ -1,5 +1,8 @@
-// Demand 3 and the other claims over whole runs, each as the contract of a function with an empty
-// body.
+// Demand 3, of two sinks as 01 has it, the recovery of one alone, that 768 frames hold three
+// numbered 0, that one wrong control bit costs nothing where it is mended, that with the type check
+// on a new sink hands out only while the last type of three frames numbered 0 running, taken with
+// it on, is the expected one, and the sum of each port's tally and the card's total, each as the
+// contract of a function with an empty body.
 ghost use Rattle.claim_recovery.specs.Demand.{Demand3, RecoveryAlone, ThreeCome};
 ghost use Rattle.claim_recovery.specs.Mended.{CostsNothing, SinksOwn};
 ghost use Rattle.claim_recovery.specs.Swapped.{OnlyExpectedType};

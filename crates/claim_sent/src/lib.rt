@@ -1,4 +1,5 @@
-// How many client bytes a source sends, as the contract of a function with an empty body.
+// How many client bytes the frames of a source carry, and that a new keeper's counts make it the
+// nearest total, as the contract of a function with an empty body.
 ghost use Rattle.claim_sent.specs.Sent.{BytesSent};
 
 // Each frame carries as many client bytes as its count says. If the counts are those of a new rate

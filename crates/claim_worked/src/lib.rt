@@ -1,5 +1,8 @@
-// Worked frames, and what shows that the claims are neither empty nor more than they need be, nor
-// weaker than what they are used for.
+// The starred cases of 01, with the counts of 02's P7, as one table, a worked run with the
+// standard's patterns and the tallies of its card, one with a customer's, one with mending and one
+// with swapped cords, that nothing less than demand 3's numbers would do, and that they, mending
+// and the even placing do for what is promised. So the claims are neither empty nor more than they
+// need be, nor weaker than what they are used for.
 ghost use Rattle.claim_worked.specs.Starred.{AllHold, starred};
 ghost use Rattle.claim_worked.specs.Run.{WorkedRun};
 ghost use Rattle.claim_worked.specs.Customer.{CustomerRun};

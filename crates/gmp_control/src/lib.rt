@@ -1,5 +1,6 @@
-// The control word of a frame: its parts, the inversion patterns, and what source and sink can rely
-// on. What a source announces by the word is in the crate gmp_control_write, how a sink's count
+// The control word of a frame: its parts, the inversion patterns, that every table of patterns that
+// keeps the rule serves, that the rule is what number 14 asks, and that no part of it can be left
+// out. What a source announces by the word is in the crate gmp_control_write, how a sink's count
 // follows it in the crate gmp_control_read.
 use gmp_settings::Patterns;
 use gmp_settings::Settings;

@@ -1,4 +1,5 @@
-// How a sink's count follows the control words of the frames.
+// How a sink's count follows a control word that was read, whole or mended (rules 2 and 3 of 01's
+// "Sink").
 use gmp_control::Followed;
 use gmp_control::Remembered;
 use gmp_settings::Settings;

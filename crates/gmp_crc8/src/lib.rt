@@ -1,6 +1,7 @@
 // The check word, CRC-8 over JC1 and JC2, and what a control word reads as: whole, mended or bad;
-// and what the check holds against wrong bits. The code that checks and reads is in the crate
-// gmp_crc8_read.
+// that up to three wrong bits of 24, or two where one is mended, read as the word or are bad; and
+// that the syndrome is the remainder of the 24 bits as read. The code that checks and reads is in
+// the crate gmp_crc8_read.
 ghost use Rattle.gmp_crc8.specs.Claims.{ReadsAsItself, MendsOneBit, SyndromeDivides, BitsToldApart};
 
 // JC1 and JC2 of a control word that was read.

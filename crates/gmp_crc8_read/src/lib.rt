@@ -1,6 +1,6 @@
-// The check worked out a byte at a time, and a control word read by it. 01's "It is worked from a
-// table of 256 remainders" is replaced by 02, P5: "Work each remainder from the division rule
-// itself".
+// The check worked out a byte at a time: the remainder of JC1 and JC2, whether three bytes pass,
+// and what they read as. 01's "It is worked from a table of 256 remainders" is replaced by 02, P5:
+// "Work each remainder from the division rule itself".
 use gmp_crc8::CheckedWord;
 use gmp_crc8::ReadWord;
 ghost use mathlib.Core.Path.{_≡_};

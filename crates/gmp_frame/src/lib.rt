@@ -1,6 +1,6 @@
 // The frame of the generic mapper: its layout of four rows, with the payload bytes at the stuffing
-// places. Writing a frame is in the crate gmp_frame_write, taking the client bytes out of one in
-// the crate gmp_frame_read.
+// places, and the control bytes and the PSI byte of a frame. Writing a frame is in the crate
+// gmp_frame_write, taking the client bytes out of one in the crate gmp_frame_read.
 ghost use mathlib.Core.Path.{_≡_};
 ghost use lib.ListN.{getD};
 ghost use Rattle.gmp_frame.specs.Frame.{controlOf, psiOf, FrameGivesBack};

@@ -1,6 +1,6 @@
 // The rate keeper: from a rate p / q of client bytes a frame it gives the count of each frame, and
-// keeps the remainder. Here are what it answers and what its counts add up to; its calls are in the
-// crate gmp_keeper_call.
+// keeps the remainder; its counts add up, and the total of a new one is nearest to the rate's. Its
+// calls are in the crate gmp_keeper_call.
 use gmp_refusal::Refusal;
 ghost use Rattle.gmp_keeper.specs.Sum.{CountsAddUp};
 ghost use Rattle.gmp_keeper.specs.Nearest.{TotalsAreNearest};

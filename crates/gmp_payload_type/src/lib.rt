@@ -1,4 +1,5 @@
-// The payload type that a sink accepts, and whether it lets the client bytes of a frame pass.
+// The payload type that a sink accepts, whether it lets the client bytes of a frame pass, and that
+// three frames running have a type accepted from any state, and from a new sink on only three.
 ghost use mathlib.Core.Path.{_≡_};
 ghost use Rattle.gmp_payload_type.specs.Types.{newTypes, isLast, seenAfter, acceptedAfter, judged, typesAfter, gateOpen};
 ghost use Rattle.gmp_payload_type.specs.Claims.{ThreeRunning};

@@ -1,5 +1,6 @@
-// The sink: its state, what it answers, and a new sink. The call that takes a frame is in the crate
-// gmp_sink_call.
+// The sink: its state, what it answers, a new sink, that with mending off and with the type check
+// off all is as 01 says, that counts are followed whatever the types are, and that the port matters
+// to number 10 alone. The call that takes a frame is in the crate gmp_sink_call.
 use gmp_control::Followed;
 use gmp_control::Remembered;
 use gmp_payload_type::Types;

@@ -1,5 +1,6 @@
-// The sink's call: it hands out the client bytes of a frame at the places of the count that it knew
-// before, where the payload type lets them pass, and follows the control word and the type.
+// The sink's call without the tallies: it hands out the client bytes of a frame at the places of
+// the count that it knew before, where the payload type lets them pass, and follows the control
+// word and the type.
 use gmp_payload_type::Expected;
 use gmp_refusal::Verdict;
 use gmp_settings::Settings;

@@ -1,5 +1,5 @@
-// What the control bytes of a frame lead to in the sink: the check, mending, and the word followed
-// from the sink's state.
+// What the control bytes of a frame lead to in the sink (rules 1 to 3 of 01's "Sink"): the check,
+// whether a bit was mended, and the word followed from the sink's state.
 use gmp_control::Followed;
 use gmp_control::Remembered;
 use gmp_crc8::CheckedWord;

@@ -1,4 +1,5 @@
-// The six standings of a sink, and the count that it knows or does not know.
+// The six standings of a sink with what each found, their names, and the count that it knows or
+// does not know.
 use gmp_settings::Settings;
 ghost use mathlib.Core.Path.{_≡_};
 ghost use Rattle.gmp_standing.specs.Standing.{standingMeaning, standingNumber};

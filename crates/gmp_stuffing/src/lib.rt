@@ -1,8 +1,9 @@
-// The stuffing places of a frame's payload, row by row. A row without stuffing is one run. In rows
-// of 16 to 2^17 - 1 bytes: where more than two thirds of the payload are client bytes, those
-// between two stuffing bytes are copied as one run, and where they are no more, each goes to its
-// place in a cleared row. A place is told by a sum in small parts of a byte, so that one addition
-// leads from one to the next: there is no division for a byte. Other rows go byte by byte.
+// Writes the payload bytes of a row, at the stuffing places, and takes the client bytes out of it.
+// A row without stuffing is one run. In rows of 16 to 2^17 - 1 bytes: where more than two thirds of
+// the payload are client bytes, those between two stuffing bytes are copied as one run, and where
+// they are no more, each goes to its place in a cleared row. A place is told by a sum in small
+// parts of a byte, so that one addition leads from one to the next: there is no division for a
+// byte. Other rows go byte by byte.
 use gmp_row::PARTS;
 ghost use mathlib.Core.Path.{_≡_};
 ghost use mathlib.Core.Bool.{_&&_};

@@ -1,4 +1,4 @@
-// The ports of the card: eight, numbered from 1.
+// The ports of the card, eight, numbered from 1, and when a port is refused.
 ghost use mathlib.Core.Path.{_≡_};
 ghost use Rattle.ports.specs.Port.{badPort};
 

@@ -1,6 +1,6 @@
-// Shows what a new sink makes of the 16-byte frames on standard input (K = 2, window 0 to 8): a
-// line for each frame, and a last line where the input ends within one. Every byte of a line is
-// promised by the functions that make it.
+// The program of 01: it shows what a new sink makes of the 16-byte frames on standard input (K = 2,
+// window 0 to 8), a line for each frame, and a last line where the input ends within one. Every
+// byte of a line is promised by the functions that make it.
 use gmp_payload_type::Expected;
 use gmp_sink::SinkAnswer;
 use gmp_sink::SinkState;
