@@ -2,7 +2,8 @@
 //! sink at OPU0's size.
 
 use crate::feed::{pieces, program, run, run_in_turns, run_on, Written};
-use second::{Card, Expected, Keeper, Random, Settings, Sink, Source, Taken};
+use second::mapper::{Card, Expected, Keeper, Settings, Sink, Source, Taken};
+use second::Random;
 use std::fs::{self, File};
 use std::time::Duration;
 

@@ -1,14 +1,15 @@
 //! Inversion patterns from the customer (02, P11): "four patterns of 14 bits for +1, −1, +2, −2,
 //! which take the place of document 01's".
 
-use crate::both::{cases, settings_of, Case, Lent, ANY};
+use crate::both::{cases, settings_of, Case, ANY};
 use crate::fields::{any_fields, fields_of, NEW};
 use crate::given::*;
 use crate::runs::{back_after_two_frames, no_false_count, rough_line};
 use odu0::ffi;
-use second::{
-    check, word, Card, Keeper, Random, Settings, Sink, Source, Standing, Tally, STANDARD,
+use second::mapper::{
+    check, word, Card, Keeper, Settings, Sink, Source, Standing, Tally, STANDARD,
 };
+use second::{Lent, Random};
 
 /// Runs so many frames at most on a small grid, and once in ten times some on OPU0's and on a large
 /// one. All the settings carry patterns that keep the rule.
