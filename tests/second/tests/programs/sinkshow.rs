@@ -1,7 +1,8 @@
 //! The program sinkshow against the second implementation's lines.
 
 use crate::feed::{pieces, run};
-use second::{Card, Expected, Random, Settings, Sink, Taken};
+use second::mapper::{Card, Expected, Settings, Sink, Taken};
+use second::{seeds, Random};
 use std::time::Duration;
 
 const SETTINGS: Settings = Settings::new(2, 0, 8);
@@ -38,7 +39,7 @@ pub fn lines(input: &[u8]) -> String {
 
 /// Frames that a source writes, with some bits turned over.
 fn written(random: &mut Random, frames: usize) -> Vec<u8> {
-    let mut source = second::Source::new(SETTINGS, random.from_to(0, 8), 0x07).unwrap();
+    let mut source = second::mapper::Source::new(SETTINGS, random.from_to(0, 8), 0x07).unwrap();
     let mut all = Vec::new();
     for _ in 0..frames {
         let next = (source.count + random.from_to(0, 4)).saturating_sub(2).min(8);
@@ -113,43 +114,33 @@ fn a_rest_has_a_line_exactly_from_1_to_15_bytes() {
 #[test]
 fn frames_are_numbered_from_1() {
     assert_eq!(shown(vec![vec![0; 16 * 1200]], None), zero_lines(1200));
-    let shown = shown(vec![Random::new(7).bytes(16 * 700)], None);
+    let shown = shown(vec![seeds::random("frames_are_numbered_from_1").bytes(16 * 700)], None);
     let numbers: Vec<_> = shown.lines().map(|line| line.split_once(' ').unwrap().0).collect();
     assert_eq!(numbers, (1..=700).map(|number| number.to_string()).collect::<Vec<_>>());
 }
 
 #[test]
 fn random_input() {
-    let seed = std::env::var("SEED").map_or(1, |seed| seed.parse().expect("SEED is a number"));
-    let mut random = Random::new(seed);
-    for case in 0..60 {
+    seeds::cases("random_input", 60, |index, mut random| {
         let frames = random.from_to(0, 300) as usize;
-        let mut input = match case % 3 {
+        let mut input = match index % 3 {
             0 => random.bytes(16 * frames),
             _ => written(&mut random, frames),
         };
         let rest = random.below(16) as usize;
         input.extend(random.bytes(rest));
         let wanted = lines(&input);
-        assert_eq!(
-            shown(vec![input.clone()], None),
-            wanted,
-            "seed {seed}, case {case}: {input:02X?}"
-        );
+        assert_eq!(shown(vec![input.clone()], None), wanted, "{input:02X?}");
         let most = random.of(&[3, 16, 17, 40, 5000]);
         let pieces = pieces(&mut random, &input, most);
-        assert_eq!(
-            shown(pieces, None),
-            wanted,
-            "seed {seed}, case {case}, in pieces: {input:02X?}"
-        );
-    }
+        assert_eq!(shown(pieces, None), wanted, "in pieces: {input:02X?}");
+    });
 }
 
 /// Frame numbers of many digits, and more input than a pipe holds.
 #[test]
 fn a_long_input() {
-    let mut random = Random::new(5);
+    let mut random = seeds::random("a_long_input");
     let mut input = written(&mut random, 120_000);
     input.extend([0; 7]);
     let (shown, wanted) = (shown(vec![input.clone()], None), lines(&input));
@@ -165,7 +156,7 @@ fn a_long_input() {
 /// Small pieces with pauses between them, so that the program reads less than a frame at a time.
 #[test]
 fn slow_input() {
-    let mut random = Random::new(6);
+    let mut random = seeds::random("slow_input");
     let mut input = written(&mut random, 20);
     input.extend([0xFF; 11]);
     let pieces = pieces(&mut random, &input, 9);

@@ -5,7 +5,7 @@
 use crate::both::{settings_of, ANY};
 use crate::given::{control_bytes, put_control, WIDE};
 use odu0::{Sink, Source, Standing, Taken, Tallies};
-use second::{check, Settings};
+use second::mapper::{check, Settings};
 
 /// Table IX.1: for JC1's C1 to C8 and JC2's C9 to C14, II and DI the bits of JC3, crc1 to crc8,
 /// whose exclusive-or they are in; the paper's X is a 1.

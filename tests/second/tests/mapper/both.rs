@@ -1,17 +1,13 @@
 //! Makes each call twice, through the library and through the second implementation, and compares
 //! the answer, the state, every byte of every buffer, the tallies of all ports and the card's
-//! total.
-//!
-//! A case draws its random numbers from the seed, the test's name and its own index, so it can be
-//! run again alone. SEED sets another seed, CASE runs one case only, RUNS multiplies the cases.
+//! total. `second::seeds` says how to run more cases, or one case again.
 
 use crate::given::{any_expected, any_tallies};
-use second::{
-    pattern, Card, Expected, Keeper, Random, Settings, Sink, Source, Standing, Taken, Tally, PORTS,
+use second::mapper::{
+    pattern, Card, Expected, Keeper, Settings, Sink, Source, Standing, Taken, Tally, PORTS,
 };
+use second::{seeds, Lent, Random};
 use std::fmt;
-use std::io::Write;
-use std::time::Instant;
 
 /// How many calls were compared, and what they answered.
 #[derive(Clone, Default)]
@@ -50,14 +46,12 @@ pub struct Outcome {
 /// What the tally is before it.
 pub const TALLY: Tally = Tally { frames: 30, bad: 20, bytes: 10 };
 
-/// One case of a test, with what is needed to run it again.
+/// One case of a test, with the last call that it made.
 pub struct Case {
     pub random: Random,
     /// Which of the test's cases it is, from 0.
     pub index: u64,
     pub done: Done,
-    test: &'static str,
-    seed: u64,
     told: Option<Expected>,
     last: Option<Call>,
 }
@@ -81,64 +75,26 @@ enum Call {
 
 /// Runs a test's cases and says on standard error how many calls were compared.
 pub fn cases(test: &'static str, cases: u64, mut run: impl FnMut(&mut Case)) -> Done {
-    let seed = from_environment("SEED").unwrap_or(1);
-    let indices = match from_environment("CASE") {
-        Some(only) => only..only + 1,
-        None => 0..cases * from_environment("RUNS").unwrap_or(1),
-    };
-    let began = Instant::now();
     let (random, done) = (Random::new(0), Done::default());
-    let mut case = Case { random, index: 0, done, test, seed, told: None, last: None };
-    for index in indices.clone() {
-        case.index = index;
-        case.random = random_of(seed, test, index);
+    let mut case = Case { random, index: 0, done, told: None, last: None };
+    let ran = seeds::cases(test, cases, |index, random| {
+        (case.index, case.random) = (index, random);
         run(&mut case);
-    }
+    });
     let done = case.done.clone();
-    let refused: u64 = done.refused.iter().sum();
-    // Past the test harness, which would swallow it.
-    let _ = writeln!(
-        std::io::stderr(),
-        "{test}: seed {seed}, {} cases; frames on small grids {}, on large ones {}, on OPU0 {}; \
-         other calls {}; refused {refused}; {:.1} s",
-        indices.end - indices.start,
-        done.small,
-        done.large,
-        done.opu0,
-        done.others,
-        began.elapsed().as_secs_f64()
-    );
+    let Done { small, large, opu0, others, refused, .. } = &done;
+    let refused: u64 = refused.iter().sum();
+    ran.say(format_args!(
+        "frames on small grids {small}, on large ones {large}, on OPU0 {opu0}; other calls \
+         {others}; refused {refused}"
+    ));
     done
 }
 
-/// Whether all cases are run, so that what they met can be asked for.
-pub fn all_cases() -> bool {
-    from_environment("CASE").is_none()
-}
-
-fn from_environment(name: &str) -> Option<u64> {
-    let value = std::env::var(name).ok()?;
-    Some(value.parse().unwrap_or_else(|_| panic!("{name} is {value}, which is not a number")))
-}
-
-fn random_of(seed: u64, test: &str, index: u64) -> Random {
-    let mut start = Random::new(seed).u64();
-    for byte in test.bytes() {
-        start = Random::new(start ^ u64::from(byte)).u64();
-    }
-    Random::new(Random::new(start ^ index).u64())
-}
-
 impl Drop for Case {
-    /// Where a comparison failed, says which, with all that is needed to run it again.
+    /// Where a comparison failed, says in which call.
     fn drop(&mut self) {
-        if !std::thread::panicking() {
-            return;
-        }
-        let (test, seed, index) = (self.test, self.seed, self.index);
-        eprintln!("{test} failed in case {index} of seed {seed}. To run it again:");
-        eprintln!("  SEED={seed} CASE={index} cargo test -p second --test agree {test}");
-        if let Some(call) = &self.last {
+        if let (true, Some(call)) = (std::thread::panicking(), &self.last) {
             eprintln!("The last call was\n{call}");
         }
     }
@@ -392,42 +348,6 @@ fn place(standing: Standing) -> usize {
         Standing::BadCheck => 3,
         Standing::Waiting => 4,
         Standing::Outside => 5,
-    }
-}
-
-/// A copy of a buffer for the library, with bytes before and behind it that it has to leave alone.
-pub struct Lent {
-    bytes: Vec<u8>,
-    before: usize,
-    length: usize,
-}
-
-const BEHIND: usize = 24;
-
-impl Lent {
-    /// The case's index moves the buffer's address, so that every one of 16 comes up.
-    pub fn new(index: u64, bytes: &[u8]) -> Lent {
-        let before = BEHIND + index as usize % 16;
-        let mut all = vec![0xA5; before + bytes.len() + BEHIND];
-        all[before..before + bytes.len()].copy_from_slice(bytes);
-        Lent { bytes: all, before, length: bytes.len() }
-    }
-
-    pub fn lent(&mut self) -> &mut [u8] {
-        &mut self.bytes[self.before..self.before + self.length]
-    }
-
-    pub fn must_be(&self, name: &str, wanted: &[u8]) {
-        let end = self.before + self.length;
-        for (at, byte) in self.bytes[..self.before].iter().chain(&self.bytes[end..]).enumerate() {
-            assert!(*byte == 0xA5, "the library wrote outside the {name}, at edge byte {at}");
-        }
-        if self.bytes[self.before..end] != *wanted {
-            let at = (0..wanted.len()).find(|at| self.bytes[self.before + at] != wanted[*at]);
-            let at = at.expect("they differ, and have one length");
-            let (theirs, ours) = (self.bytes[self.before + at], wanted[at]);
-            panic!("the {name}, byte {at} from 0: library {theirs:02X}, second {ours:02X}");
-        }
     }
 }
 

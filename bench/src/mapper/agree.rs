@@ -1,42 +1,10 @@
 //! All versions agree: on the places, on the bytes taken, and, of whole calls, on every answer.
 
-use crate::{all_jobs, Job, SinkCall, SourceCall, OPU0, TOLD};
-use crate::{best, best_place, best_take, loop_place, loop_take, plain_place, plain_take};
-use crate::{c_total, some_tallies, whole_sink_call, whole_source_call};
-use crate::{wide_place, wide_take};
+use super::job::*;
+use super::{best, c_total, some_tallies};
+use crate::agreement::{Guarded, Random};
 use odu0::ffi::{self, odu0_sink_call, odu0_source_call};
 use odu0::{Expected, Patterns, Settings, Source, Tallies};
-use std::ops::Range;
-
-/// Guard bytes on both sides of a buffer, more than the widest block has.
-const GUARD: usize = 256;
-
-/// A buffer between guard bytes, all of them with one value.
-struct Guarded(Vec<u8>);
-
-impl Guarded {
-    const FILL: u8 = 0xEE;
-
-    fn new(length: usize) -> Guarded {
-        Guarded(vec![Guarded::FILL; length + 2 * GUARD])
-    }
-
-    fn inside(&self) -> Range<usize> {
-        GUARD..self.0.len() - GUARD
-    }
-
-    fn bytes(&mut self) -> &mut [u8] {
-        let inside = self.inside();
-        &mut self.0[inside]
-    }
-
-    /// Whether it begins with these bytes, and has all others as they were, the guard too.
-    fn holds(&self, bytes: &[u8]) -> bool {
-        let is_fill = |part: &[u8]| part.iter().all(|byte| *byte == Guarded::FILL);
-        let (before, rest) = self.0.split_at(GUARD);
-        is_fill(before) && rest.starts_with(bytes) && is_fill(&rest[bytes.len()..])
-    }
-}
 
 /// A version: its name, and what it does with the buffer that it is lent.
 type Placing<'a> = (&'a str, &'a dyn Fn(&mut [u8]));
@@ -112,49 +80,32 @@ fn agree_mended(job: &Job) {
     }
 }
 
-/// Numbers that look random and are the same in every run.
-struct Random(u64);
-
-impl Random {
-    fn below(&mut self, n: u32) -> u32 {
-        self.0 ^= self.0 << 13;
-        self.0 ^= self.0 >> 7;
-        self.0 ^= self.0 << 17;
-        (((self.0 >> 32) * u64::from(n)) >> 32) as u32
+fn any_settings(random: &mut Random) -> ffi::Settings {
+    let k = 1 + random.below(12);
+    let lo = random.below(4 * k + 1);
+    let mut settings = Settings::new(k, lo, lo + random.below(4 * k - lo + 1));
+    if random.seldom(3) {
+        let [plus1, plus2, minus1] = [(); 3].map(|_| random.below(16384));
+        let patterns = Patterns { plus1, minus1, plus2, minus2: plus1 ^ plus2 ^ minus1 };
+        settings = settings.with_patterns(patterns);
     }
+    settings.mending = random.seldom(2);
+    settings.type_check = random.seldom(2);
+    settings.into()
+}
 
-    /// True once in n times.
-    fn seldom(&mut self, n: u32) -> bool {
-        self.below(n) == 0
-    }
-
-    fn settings(&mut self) -> ffi::Settings {
-        let k = 1 + self.below(12);
-        let lo = self.below(4 * k + 1);
-        let mut settings = Settings::new(k, lo, lo + self.below(4 * k - lo + 1));
-        if self.seldom(3) {
-            let [plus1, plus2, minus1] = [(); 3].map(|_| self.below(16384));
-            let patterns = Patterns { plus1, minus1, plus2, minus2: plus1 ^ plus2 ^ minus1 };
-            settings = settings.with_patterns(patterns);
-        }
-        settings.mending = self.seldom(2);
-        settings.type_check = self.seldom(2);
-        settings.into()
-    }
-
-    /// A count near another, or any.
-    fn count(&mut self, settings: ffi::Settings, count: u32) -> u32 {
-        match self.below(4) {
-            0 => self.below(4 * settings.k + 2),
-            _ => (count + self.below(5)).saturating_sub(2).clamp(settings.lo, settings.hi),
-        }
+/// A count near another, or any.
+fn any_count(random: &mut Random, settings: ffi::Settings, count: u32) -> u32 {
+    match random.below(4) {
+        0 => random.below(4 * settings.k + 2),
+        _ => (count + random.below(5)).saturating_sub(2).clamp(settings.lo, settings.hi),
     }
 }
 
 /// The whole calls in C and ours give the same answers, in runs of frames of which some are harmed,
 /// and with wrong settings and states among them.
 fn agree_on_calls(random: &mut Random) {
-    let settings = random.settings();
+    let settings = any_settings(random);
     let length = 4 * settings.k as usize + 8;
     let payload_type = random.below(256) as u8;
     let mut source = Source { count: settings.lo, multiframe: random.below(300), payload_type };
@@ -163,7 +114,7 @@ fn agree_on_calls(random: &mut Random) {
     let mut tallies = [Tallies::new(), Tallies::new()];
     let mut frames = [vec![0; length], vec![0; length]];
     for _ in 0..40 {
-        let next = random.count(settings, source.count);
+        let next = any_count(random, settings, source.count);
         let client: Vec<u8> = (0..source.count).map(|_| random.below(256) as u8).collect();
         let mut asked = settings;
         match random.below(60) {
@@ -226,7 +177,7 @@ pub fn main() {
             agree_typed(&job);
         }
     }
-    let mut random = Random(0x9E37_79B9_7F4A_7C15);
+    let mut random = Random::new();
     let drawn = |k: u32, random: &mut Random| {
         let number = if k == OPU0 { 400 } else { 300 };
         (0..number).map(|_| (k, random.below(4 * k + 1))).collect::<Vec<_>>()

@@ -3,7 +3,7 @@
 
 use crate::both::{cases, Case};
 use crate::given::WIDE;
-use second::{clients_in, Settings, Source};
+use second::mapper::{clients_in, Settings, Source};
 
 /// The payload of a frame as the library and the second implementation write it, every client byte
 /// being 1.

@@ -2,7 +2,7 @@
 
 use crate::both::{cases, Case};
 use crate::given::{broken, small_settings, varied, WIDE};
-use second::{nearest, Settings};
+use second::mapper::{nearest, Settings};
 
 /// Whether T is nearest to t × p / q, exact halves going up, by the sentence that a partner cites.
 fn is_nearest(t: u64, p: u32, q: u32, total: u64) -> bool {

@@ -2,7 +2,8 @@
 //! them. Both must take the settings, the states, what a call is told, the port and the tallies as
 //! this tree's odu0.h has them.
 
-use crate::{all_jobs, best_place, best_take, race, AtOffset, Job, SinkCall, SourceCall, PAGE};
+use super::job::{all_jobs, best_place, best_take, Job, SinkCall, SourceCall};
+use crate::timing::{middle, race, AtOffset, Table};
 use odu0::Tallies;
 use std::cell::RefCell;
 use std::ffi::{c_char, c_int, c_void, CString};
@@ -69,35 +70,21 @@ fn agree(checks: &[Check]) {
     }
 }
 
-/// The times of the two libraries at a call, and of the best C, which only places or takes: the
-/// race in the middle of an odd number of them, by after / before. In a race they are lent the same
-/// buffers, and in each the one that is written begins at another offset in a page.
-fn middle(race_at: impl Fn(usize) -> [f64; 3]) -> [f64; 3] {
-    const RACES: usize = 21;
-    let ratio = |[before, after, _]: &[f64; 3]| after / before;
-    let mut races: Vec<[f64; 3]> = (0..RACES).map(|i| race_at(i * PAGE / RACES)).collect();
-    races.sort_by(|one, other| ratio(one).total_cmp(&ratio(other)));
-    races[RACES / 2]
-}
-
-fn show(call: &str, (k, count): (u32, u32), [before, after, best]: [f64; 3]) {
-    println!(
-        "| {call:<6} | {k:4} | {count:5} | {before:8.1} | {after:8.1} | {:14.3} | {best:8.1} | \
-         {:10.2} | {:9.2} |",
-        after / before,
-        before / best,
-        after / best
-    );
+/// Shows the times of the two libraries at a call, and of the best C, which only places or takes.
+fn show(table: &Table, call: &str, (k, count): (u32, u32), [before, after, best]: [f64; 3]) {
+    let mut row = [call.to_string(), k.to_string(), count.to_string()].to_vec();
+    row.extend([before, after].map(|time| format!("{time:.1}")));
+    row.push(format!("{:.3}", after / before));
+    row.push(format!("{best:.1}"));
+    row.extend([before, after].map(|time| format!("{:.2}", time / best)));
+    table.row(&row);
 }
 
 pub fn main(before: &str, after: &str) {
     let libraries = &[before, after].map(Library::open);
     println!("\nIn ns; the best C only places or takes.\n");
-    println!(
-        "| call   |    K | count |   before |    after | after / before |   best C | before / C | \
-         after / C |"
-    );
-    println!("|:---|{}", "---:|".repeat(8));
+    let heads = ["call  ", "   K", "count", "  before", "   after", "after / before"];
+    let table = &Table::new(1, &[&heads[..], &["  best C", "before / C", "after / C"]].concat());
     for (k, count) in all_jobs().chain([(1, 4), (1, 0)]) {
         let job = &Job::new(k, count);
         let frame = &RefCell::new(AtOffset::new(&job.frame, 0));
@@ -124,7 +111,7 @@ pub fn main(before: &str, after: &str) {
                 Box::new(|| job.place(best_place, &mut frame.borrow_mut())),
             ])
         });
-        show("source", (k, count), sources);
+        show(table, "source", (k, count), sources);
         let sinks = middle(|offset| {
             out.replace(AtOffset::new(&job.frame, offset));
             race([
@@ -133,7 +120,7 @@ pub fn main(before: &str, after: &str) {
                 Box::new(|| job.take(best_take, &mut out.borrow_mut())),
             ])
         });
-        show("sink", (k, count), sinks);
+        show(table, "sink", (k, count), sinks);
     }
     let [b, a] = libraries;
     let checks = [b.check, a.check, table_check, tables_check, steps_check];

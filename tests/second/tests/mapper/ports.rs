@@ -1,12 +1,13 @@
 //! A tally for each port (02, P2): "each sink call names its port. A call changes only its own
 //! port's three numbers. The card's total is their sum, which may exceed 32 bits."
 
-use crate::both::{all_cases, cases, Case, LentCard, ANY};
+use crate::both::{cases, Case, LentCard, ANY};
 use crate::fields::{fields_of, NEW};
 use crate::given::*;
 use crate::runs::{harm, off_the_card, source_run, watch, Written};
 use odu0::ffi;
-use second::{Card, Expected, Random, Settings, Sink, Standing, Taken, Tally, PORTS};
+use second::mapper::{Card, Expected, Settings, Sink, Standing, Taken, Tally, PORTS};
+use second::{seeds::all_cases, Random};
 
 const EIGHT: Settings = Settings::new(2, 0, 8);
 

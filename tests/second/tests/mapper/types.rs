@@ -3,13 +3,14 @@
 //! the accepted type is none or not the expected one, no bytes are handed out, though counts are
 //! followed."
 
-use crate::both::{all_cases, cases, settings_of, Case, Outcome, TALLY};
+use crate::both::{cases, settings_of, Case, Outcome, TALLY};
 use crate::fields::{fields_of, reply, BEFORE, NEW};
 use crate::given::*;
 use crate::mending::arriving;
 use crate::runs::{off_the_card, source_run, watch, Written};
 use odu0::ffi;
-use second::{word, Card, Expected, Random, Settings, Sink, Standing, Taken, Tally, Types};
+use second::mapper::{word, Card, Expected, Settings, Sink, Standing, Taken, Tally, Types};
+use second::{seeds::all_cases, Random};
 
 const EIGHT: Settings = Settings::new(2, 0, 8);
 

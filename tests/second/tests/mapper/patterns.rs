@@ -1,14 +1,15 @@
 //! Inversion patterns from the customer (02, P11): "four patterns of 14 bits for +1, −1, +2, −2,
 //! which take the place of document 01's".
 
-use crate::both::{cases, settings_of, Case, Lent, ANY};
+use crate::both::{cases, settings_of, Case, ANY};
 use crate::fields::{any_fields, fields_of, NEW};
 use crate::given::*;
 use crate::runs::{back_after_two_frames, no_false_count, rough_line};
 use odu0::ffi;
-use second::{
-    check, word, Card, Keeper, Random, Settings, Sink, Source, Standing, Tally, STANDARD,
+use second::mapper::{
+    check, word, Card, Keeper, Settings, Sink, Source, Standing, Tally, STANDARD,
 };
+use second::{seeds, Lent};
 
 /// Runs so many frames at most on a small grid, and once in ten times some on OPU0's and on a large
 /// one. All the settings carry patterns that keep the rule.
@@ -108,7 +109,7 @@ fn every_small_table_from_every_state() {
 /// says of them.
 #[test]
 fn every_word_of_opu0() {
-    let mut random = Random::new(14);
+    let mut random = seeds::random("every_word_of_opu0");
     let standard = STANDARD.map(|(_, pattern)| pattern);
     let (mut out, mut tallies) = (vec![0; 14410], odu0::Tallies::new());
     let client = random.bytes(14410);

@@ -1,8 +1,9 @@
 //! Single calls with random arguments.
 
-use crate::both::{all_cases, cases, Case};
+use crate::both::{cases, Case};
 use crate::given::*;
-use second::{check, Card, Expected, Keeper, Settings, Sink, Source, Tally, Types};
+use second::mapper::{check, Card, Expected, Keeper, Settings, Sink, Source, Tally, Types};
+use second::seeds::all_cases;
 
 #[test]
 fn random_sink_calls() {

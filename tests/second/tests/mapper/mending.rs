@@ -1,14 +1,15 @@
 //! One wrong control bit mended (02, P1): "a remainder equal to that of one wrong bit among the 24
-//! has that bit flipped before reading". agree/words.rs reads every word of 24 bits so.
+//! has that bit flipped before reading". mapper/words.rs reads every word of 24 bits so.
 
 use crate::both::{cases, settings_of, Case, Outcome, ANY, TALLY};
 use crate::fields::{fields_of, reply, BEFORE, NEW};
 use crate::given::*;
 use crate::runs::{off_the_card, source_run, watch, Written};
 use odu0::ffi;
-use second::{
-    check, read, word, Expected, Keeper, Random, Settings, Sink, Source, Standing, Taken, Tally,
+use second::mapper::{
+    check, read, word, Expected, Keeper, Settings, Sink, Source, Standing, Taken, Tally,
 };
+use second::Random;
 
 const EIGHT: Settings = Settings::new(2, 0, 8);
 

@@ -1,9 +1,10 @@
 //! What the calls are given: random arguments, most of them near what is accepted or expected, and
 //! hostile ones.
 
-use second::{
-    check, pattern, possible, word, Expected, Random, Settings, Sink, Tally, Types, PORTS,
+use second::mapper::{
+    check, pattern, possible, word, Expected, Settings, Sink, Tally, Types, PORTS,
 };
+use second::Random;
 
 /// The widest window.
 pub const WIDE: Settings = Settings::new(3808, 0, 15232);
@@ -360,7 +361,7 @@ pub fn hostile_sink(random: &mut Random, settings: Settings, word: u32) -> Sink 
     let before = (i64::from(announced) - change).rem_euclid(16384) as u32;
     Sink {
         count: random.once_in(2).then_some(count),
-        word: (!random.once_in(4)).then_some(second::word(settings, before, announced)),
+        word: (!random.once_in(4)).then_some(second::mapper::word(settings, before, announced)),
         types: any_types(random),
     }
 }

@@ -1,10 +1,11 @@
 //! The fields of the C interface themselves, where they say more than the Rust types: flags of
 //! every value, what stands beside a flag of 0, every field of a reply, and NULL.
 
-use crate::both::{cases, expected_of, settings_of, sink_of, Lent, LentCard, ANY};
+use crate::both::{cases, expected_of, settings_of, sink_of, LentCard, ANY};
 use crate::given::*;
 use odu0::ffi;
-use second::{Card, Random, Settings, Sink, Standing, Taken};
+use second::mapper::{Card, Settings, Sink, Standing, Taken};
+use second::{Lent, Random};
 use std::mem::offset_of;
 use std::ptr::null_mut;
 

@@ -1,8 +1,9 @@
 //! Each refusal alone, and each with others: the lowest number is the answer.
 
-use crate::both::{all_cases, cases};
+use crate::both::cases;
 use crate::given::{any_sink, any_tallies, wrong_port};
-use second::{Card, Keeper, Settings, Source};
+use second::mapper::{Card, Keeper, Settings, Source};
+use second::seeds::all_cases;
 use std::collections::BTreeSet;
 
 /// Settings that each of grid, window and patterns applies to or not, in many ways.

@@ -1,8 +1,9 @@
 //! Whole runs of a source and its sinks, and demand 3 watched on them.
 
-use crate::both::{all_cases, cases, Case, Done};
+use crate::both::{cases, Case, Done};
 use crate::given::*;
-use second::{word, Card, Expected, Random, Settings, Sink, Standing, Taken, Tally, Types};
+use second::mapper::{word, Card, Expected, Settings, Sink, Standing, Taken, Tally, Types};
+use second::{seeds::all_cases, Random};
 
 /// A frame as an accepted source call wrote it.
 pub struct Written {
