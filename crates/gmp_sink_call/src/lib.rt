@@ -108,8 +108,8 @@ fn read_frame(settings: Settings, state: SinkState, expected: Expected, frame: &
     ensures { λ r. ⌜ ReadsFrame settings state expected (now (frame .entry)) (r .answer) (r .state) (r .mended) ⌝ }
 {
     let control = gmp_frame::control_of(frame, settings.k);
-    let read = gmp_sink_control::read_control(settings, state, control);
-    let followed = read.followed;
+    let control_read = gmp_sink_control::read_control(settings, state, control);
+    let followed = control_read.followed;
     let standing = followed.standing;
     let count = followed.count;
     let word = followed.word;
@@ -123,6 +123,6 @@ fn read_frame(settings: Settings, state: SinkState, expected: Expected, frame: &
             word: word,
             types: types,
         },
-        mended: read.mended,
+        mended: control_read.mended,
     }
 }
