@@ -13,7 +13,7 @@
 AT(odu0_settings, k, 0);
 AT(odu0_settings, lo, 4);
 AT(odu0_settings, hi, 8);
-AT(odu0_settings, given, 12);
+AT(odu0_settings, has_patterns, 12);
 AT(odu0_settings, plus1, 16);
 AT(odu0_settings, minus1, 20);
 AT(odu0_settings, plus2, 24);
@@ -42,13 +42,13 @@ AT(odu0_sink, seen_type, 25);
 SIZE(odu0_sink, 28);
 
 AT(odu0_tally, frames, 0);
-AT(odu0_tally, bad, 4);
+AT(odu0_tally, badcheck, 4);
 AT(odu0_tally, bytes, 8);
 SIZE(odu0_tally, 12);
 SIZE(odu0_tallies, 96);
 
 AT(odu0_total, frames, 0);
-AT(odu0_total, bad, 8);
+AT(odu0_total, badcheck, 8);
 AT(odu0_total, bytes, 16);
 SIZE(odu0_total, 24);
 
@@ -56,10 +56,23 @@ AT(odu0_source_reply, refusal, 0);
 AT(odu0_source_reply, state, 4);
 SIZE(odu0_source_reply, 16);
 
+AT(odu0_v1_keeper_reply, refusal, 0);
+AT(odu0_v1_keeper_reply, count, 4);
+AT(odu0_v1_keeper_reply, remainder, 8);
+SIZE(odu0_v1_keeper_reply, 12);
+
+AT(odu0_rate, p, 0);
+AT(odu0_rate, q, 4);
+SIZE(odu0_rate, 8);
+
+AT(odu0_keeper, rate, 0);
+AT(odu0_keeper, remainder, 8);
+SIZE(odu0_keeper, 12);
+
 AT(odu0_keeper_reply, refusal, 0);
 AT(odu0_keeper_reply, count, 4);
-AT(odu0_keeper_reply, remainder, 8);
-SIZE(odu0_keeper_reply, 12);
+AT(odu0_keeper_reply, state, 8);
+SIZE(odu0_keeper_reply, 20);
 
 AT(odu0_sink_reply, refusal, 0);
 AT(odu0_sink_reply, standing, 4);
