@@ -4,7 +4,7 @@ use std::ops::{Deref, DerefMut, Range};
 use std::time::{Duration, Instant};
 
 /// How many bytes a page has.
-pub const PAGE: usize = 4096;
+const PAGE: usize = 4096;
 
 /// A buffer that begins at a given offset in a page, since it matters where a buffer stands.
 pub struct AtOffset {
@@ -62,9 +62,9 @@ pub fn race<const N: usize>(mut versions: [Box<dyn FnMut() + '_>; N]) -> [f64; N
     best
 }
 
-/// The times of each job: the best of several passes over all of them, so that what else the machine
-/// does falls on other jobs in each. In each pass the buffer that is written begins at another
-/// offset in a page, which the race is told, and each version has its best.
+/// The times of each job: the best of several passes over all of them, so that what else the
+/// machine does falls on other jobs in each. In each pass the buffer that is written begins at
+/// another offset in a page, which the race is told, and each version has its best.
 pub fn best_of_passes<Job, const N: usize>(
     jobs: &[Job],
     race_at: impl Fn(&Job, usize) -> [f64; N],

@@ -593,7 +593,7 @@ impl Sink {
 #[cfg(test)]
 mod tests {
     use super::*;
-    use crate::Random;
+    use crate::seeds;
 
     /// Patterns with which the two possible counts of a word may be one.
     const ONE: Settings = Settings::OPU0.with_patterns([0, 0, 1, 1]);
@@ -877,7 +877,7 @@ mod tests {
     /// With any patterns that keep P11's rule a word may continue both, but only to one count.
     #[test]
     fn a_pair_of_words_leads_to_one_count_by_the_rule() {
-        let mut random = Random::new(11);
+        let mut random = seeds::random("a_pair_of_words_leads_to_one_count_by_the_rule");
         let mut both = 0;
         for _ in 0..100_000 {
             // Patterns of a few low bits are those that bring two possible counts together.

@@ -34,7 +34,7 @@ impl Ran {
 /// Runs a test's cases, so many or as the environment says: each is given its index and its random
 /// numbers.
 pub fn cases(test: &'static str, cases: u64, mut run: impl FnMut(u64, Random)) -> Ran {
-    let seed = from_environment("SEED").unwrap_or(1);
+    let seed = seed();
     let indices = match from_environment("CASE") {
         Some(only) => only..only + 1,
         None => 0..cases * from_environment("RUNS").unwrap_or(1),
@@ -47,9 +47,18 @@ pub fn cases(test: &'static str, cases: u64, mut run: impl FnMut(u64, Random)) -
     Ran { test, seed, cases: indices.end - indices.start, took: began.elapsed() }
 }
 
+/// Random numbers for what has no cases, by its name: those of case 0.
+pub fn random(name: &str) -> Random {
+    random_of(seed(), name, 0)
+}
+
 /// Whether all cases are run, so that what they met can be asked for.
 pub fn all_cases() -> bool {
     from_environment("CASE").is_none()
+}
+
+fn seed() -> u64 {
+    from_environment("SEED").unwrap_or(1)
 }
 
 fn from_environment(name: &str) -> Option<u64> {
@@ -57,9 +66,9 @@ fn from_environment(name: &str) -> Option<u64> {
     Some(value.parse().unwrap_or_else(|_| panic!("{name} is {value}, which is not a number")))
 }
 
-fn random_of(seed: u64, test: &str, index: u64) -> Random {
+fn random_of(seed: u64, name: &str, index: u64) -> Random {
     let mut start = Random::new(seed).u64();
-    for byte in test.bytes() {
+    for byte in name.bytes() {
         start = Random::new(start ^ u64::from(byte)).u64();
     }
     Random::new(Random::new(start ^ index).u64())

@@ -9,7 +9,7 @@ use odu0::ffi;
 use second::mapper::{
     check, word, Card, Keeper, Settings, Sink, Source, Standing, Tally, STANDARD,
 };
-use second::{Lent, Random};
+use second::{seeds, Lent};
 
 /// Runs so many frames at most on a small grid, and once in ten times some on OPU0's and on a large
 /// one. All the settings carry patterns that keep the rule.
@@ -110,7 +110,7 @@ fn every_small_table_from_every_state() {
 /// says of them.
 #[test]
 fn every_word_of_opu0() {
-    let mut random = Random::new(14);
+    let mut random = seeds::random("every_word_of_opu0");
     let standard = STANDARD.map(|(_, pattern)| pattern);
     let (mut out, mut tallies) = (vec![0; 14410], odu0::Tallies::new());
     let client = random.bytes(14410);

@@ -3,7 +3,7 @@
 
 use crate::feed::{run, Written};
 use crate::filters::{demapped, mapped};
-use second::Random;
+use second::seeds;
 
 const NOT_DECIMAL: &str = "odu0map: the arguments are not two decimal numbers of 32 bits\n";
 const USAGE: &str = "usage: odu0map [P Q], client bytes a frame as P / Q: Q from 1 to 65535, \
@@ -25,7 +25,7 @@ fn assert_not_decimal(text: &str) {
 
 /// Asserts that odu0map maps 14,407 bytes a frame.
 fn assert_right(arguments: &[&str]) {
-    let input = Random::new(31).bytes(3 * 14407 + 5);
+    let input = seeds::random("assert_right").bytes(3 * 14407 + 5);
     let written = run("odu0map", arguments, vec![input.clone()], None);
     assert!(written == mapped(&input, (14407, 1)), "{arguments:?}: {}", written.said);
 }
@@ -219,7 +219,8 @@ fn types_that_are_no_number_from_0_to_255() {
 /// and to one who expects a type beside it nothing is.
 #[test]
 fn types_from_0_to_255() {
-    let mut frames = mapped(&Random::new(33).bytes(514 * 14407), (14407, 1)).out;
+    let mut frames =
+        mapped(&seeds::random("types_from_0_to_255").bytes(514 * 14407), (14407, 1)).out;
     let bytes = |frames: &[u8], of: &str| {
         let written = run("odu0demap", &["type", of], vec![frames.to_vec()], None);
         let accepted = format!("frame 513: accepted type {}\n", frames[11430]);
@@ -242,7 +243,8 @@ fn types_from_0_to_255() {
 /// No argument and `mend`: both take frames, of which only the second mends one.
 #[test]
 fn odu0demap_with_and_without_mend() {
-    let mut input = mapped(&Random::new(32).bytes(3 * 14407), (14407, 1)).out;
+    let mut input =
+        mapped(&seeds::random("odu0demap_with_and_without_mend").bytes(3 * 14407), (14407, 1)).out;
     input[7621] ^= 1;
     let cases: [(&[&str], &str, usize); 2] = [
         (

@@ -4,7 +4,7 @@
 use crate::feed::{program, program_after, run_on, run_onto, run_until_closed, Input, Written};
 use crate::filters::{demapped, mapped};
 use crate::sinkshow::lines;
-use second::Random;
+use second::seeds;
 use std::fs::{self, File};
 use std::io::{self, Read, Seek, Write};
 use std::os::fd::OwnedFd;
@@ -63,7 +63,7 @@ impl Case {
 /// first frame only. For that one it has no count; the first load that it hands out is that of the
 /// second.
 fn cases() -> [Case; 3] {
-    let client = Random::new(21).bytes(5 * 14407);
+    let client = seeds::random("failing").bytes(5 * 14407);
     let frames = mapped(&client, (14407, 1)).out;
     let zeros = vec![0; 2000 * 16];
     [
@@ -158,7 +158,7 @@ fn a_standing_whose_bytes_are_not_written() {
 /// of frame 514 is the first that fails.
 #[test]
 fn an_accepted_type_and_a_full_device() {
-    let client = Random::new(25).bytes(514 * 14407);
+    let client = seeds::random("an_accepted_type_and_a_full_device").bytes(514 * 14407);
     let frames = mapped(&client, (14407, 1)).out;
     let [_, case, _] = cases();
     let case = Case { arguments: &["type", "7"], ..case };
@@ -273,7 +273,7 @@ fn an_output_closed_after_the_first_write() {
 /// writes that were done.
 #[test]
 fn an_output_closed_within_many_frames() {
-    let client = Random::new(26).bytes(60 * 14407);
+    let client = seeds::random("an_output_closed_within_many_frames").bytes(60 * 14407);
     let frames = mapped(&client, (14407, 1)).out;
     let [map, demap, _] = cases();
     let done = "odu0map: frames 60, bytes 864420\n";

@@ -3,7 +3,7 @@
 
 use crate::feed::{pieces, program, run, run_in_turns, run_on, Written};
 use second::mapper::{Card, Expected, Keeper, Settings, Sink, Source, Taken};
-use second::Random;
+use second::{seeds, Random};
 use std::fs::{self, File};
 use std::time::Duration;
 
@@ -131,7 +131,7 @@ fn harmed(random: &mut Random, frames: &[u8]) -> Vec<u8> {
 
 #[test]
 fn mapping_at_many_rates() {
-    let mut random = Random::new(11);
+    let mut random = seeds::random("mapping_at_many_rates");
     for case in 0..40 {
         let (p, q) = rate(&mut random);
         let length = random.from_to(0, 300_000) as usize;
@@ -149,7 +149,7 @@ fn mapping_at_many_rates() {
 
 #[test]
 fn mapping_at_the_usual_rate() {
-    let input = Random::new(12).bytes(14407 * 300);
+    let input = seeds::random("mapping_at_the_usual_rate").bytes(14407 * 300);
     let written = run("odu0map", &[], vec![input.clone()], None);
     assert!(written == mapped(&input, USUAL), "{}", written.said);
     // More frames than a multiframe has.
@@ -158,7 +158,7 @@ fn mapping_at_the_usual_rate() {
 
 #[test]
 fn demapping_what_was_harmed() {
-    let mut random = Random::new(13);
+    let mut random = seeds::random("demapping_what_was_harmed");
     for case in 0..20 {
         let at = rate(&mut random);
         let client = random.bytes(14407 * 30);
@@ -180,7 +180,7 @@ fn demapping_what_was_harmed() {
 /// The argument `mend` on frames with single wrong control bits, and the same frames without it.
 #[test]
 fn demapping_with_single_errors() {
-    let mut random = Random::new(18);
+    let mut random = seeds::random("demapping_with_single_errors");
     for case in 0..20 {
         let at = rate(&mut random);
         let client = random.bytes(14407 * 30);
@@ -204,7 +204,7 @@ fn demapping_with_single_errors() {
 /// where its standing is that of the frame before.
 #[test]
 fn each_control_bit_in_turn() {
-    let client = Random::new(19).bytes(14407 * 27 + 20);
+    let client = seeds::random("each_control_bit_in_turn").bytes(14407 * 27 + 20);
     let mut input = mapped(&client, USUAL).out;
     for (bit, frame) in (1..=24).zip(input.chunks_exact_mut(FRAME).skip(3)) {
         turn_over(frame, bit);
@@ -232,7 +232,7 @@ fn each_control_bit_in_turn() {
 /// before there is a count; and of the frames behind them.
 #[test]
 fn lines_of_mended_frames() {
-    let client = Random::new(20).bytes(14407 * 8);
+    let client = seeds::random("lines_of_mended_frames").bytes(14407 * 8);
     let frames = mapped(&client, (14407, 1)).out;
     let demapped_with = |wrong: &[(usize, usize)], said: &str| {
         let mut input = frames.clone();
@@ -267,7 +267,7 @@ fn lines_of_mended_frames() {
 /// come from frame 514 on where 7 is expected, and none where another type is.
 #[test]
 fn types_of_mapped_frames() {
-    let client = Random::new(22).bytes(14407 * 516);
+    let client = seeds::random("types_of_mapped_frames").bytes(14407 * 516);
     let frames = mapped(&client, (14407, 1)).out;
     let said = |bytes: u32| {
         format!(
@@ -309,7 +309,7 @@ fn types_of_mapped_frames() {
 /// Frames whose type changes: 0 three times, then 7 and 0 once each, and 7 three times.
 #[test]
 fn types_that_change() {
-    let client = Random::new(23).bytes(14407 * 1800);
+    let client = seeds::random("types_that_change").bytes(14407 * 1800);
     let mut frames = mapped(&client, (14407, 1)).out;
     for (multiframe, psi) in [0, 0, 0, 7, 0, 7, 7, 7].into_iter().enumerate() {
         frames[256 * multiframe * FRAME + PSI] = psi;
@@ -330,7 +330,7 @@ fn types_that_change() {
 /// Types that change, in frames with wrong control bits over many multiframes, none lost.
 #[test]
 fn types_with_wrong_control_bits() {
-    let mut random = Random::new(25);
+    let mut random = seeds::random("types_with_wrong_control_bits");
     let at = rate(&mut random);
     let client = random.bytes(14410 * 1300);
     let mut input = single_errors(&mut random, &mapped(&client, at).out);
@@ -350,7 +350,7 @@ fn types_with_wrong_control_bits() {
 /// many moves the numbers, which the program gives by itself.
 #[test]
 fn types_of_harmed_frames() {
-    let client = Random::new(24).bytes(14407 * 520);
+    let client = seeds::random("types_of_harmed_frames").bytes(14407 * 520);
     let frames = mapped(&client, (14407, 1)).out;
     let with = |change: &dyn Fn(&mut Vec<u8>), said: &str| {
         let mut frames = frames.clone();
@@ -380,7 +380,7 @@ fn types_of_harmed_frames() {
 /// but the first two, for want of their counts.
 #[test]
 fn there_and_back() {
-    let input = Random::new(14).bytes(14407 * 50);
+    let input = seeds::random("there_and_back").bytes(14407 * 50);
     let frames = run("odu0map", &[], vec![input.clone()], None);
     let back = run("odu0demap", &[], vec![frames.out], None);
     assert!(input[14407 + 14408..].starts_with(&back.out));
@@ -395,7 +395,7 @@ fn there_and_back() {
 /// Several thousand frames through both filters: they go on until the input ends.
 #[test]
 fn thousands_of_frames() {
-    let input = Random::new(32).bytes(14407 * 5000 + 9);
+    let input = seeds::random("thousands_of_frames").bytes(14407 * 5000 + 9);
     let frames = run("odu0map", &["14407", "1"], vec![input.clone()], None);
     let said = "odu0map: 9 bytes left at the end\nodu0map: frames 5000, bytes 72035000\n";
     assert_eq!(frames.said, said);
@@ -410,7 +410,7 @@ fn thousands_of_frames() {
 
 #[test]
 fn slow_pieces() {
-    let mut random = Random::new(15);
+    let mut random = seeds::random("slow_pieces");
     let client = random.bytes(14407 * 3);
     let fed = pieces(&mut random, &client, 2000);
     let frames = run("odu0map", &["14407", "1"], fed, Some(Duration::from_millis(1)));
@@ -428,7 +428,7 @@ fn pieces_of(length: usize, input: &[u8]) -> Vec<Vec<u8>> {
 /// Frames and loads that come in odd pieces: what is written is as if they came at once.
 #[test]
 fn odd_pieces() {
-    let mut random = Random::new(27);
+    let mut random = seeds::random("odd_pieces");
     let (client, at) = (random.bytes(14407 * 40 + 9), (18_671_875, 1296));
     let frames = [&harmed(&mut random, &mapped(&client, at).out)[..], &random.bytes(77)].concat();
     let lengths = [14_406, 14_408, 15_239, 15_241, 53_340, 15_240 * 16 + 1, 1_000_000];
@@ -445,7 +445,7 @@ fn odd_pieces() {
 
 #[test]
 fn byte_by_byte() {
-    let client = Random::new(28).bytes(2 * 14407 + 11);
+    let client = seeds::random("byte_by_byte").bytes(2 * 14407 + 11);
     let frames = run("odu0map", &["14407", "1"], pieces_of(1, &client), None);
     assert!(frames == mapped(&client, (14407, 1)), "{}", frames.said);
     let back = run("odu0demap", &[], pieces_of(1, &frames.out), None);
@@ -456,7 +456,7 @@ fn byte_by_byte() {
 /// more, or 16 frames, are read at a time. A pipe gives 65,536 bytes at most.
 #[test]
 fn many_frames_from_a_file() {
-    let mut random = Random::new(29);
+    let mut random = seeds::random("many_frames_from_a_file");
     for loads in [15, 16, 17, 32, 33, 48, 49, 100] {
         let at = rate(&mut random);
         let client = random.bytes(loads * 14410 + 3);
@@ -484,7 +484,7 @@ fn many_frames_from_a_file() {
 /// where the start of the next one came with it, and each load before the next frame.
 #[test]
 fn nothing_is_held_back() {
-    let client = Random::new(30).bytes(14407 * 20 + 300);
+    let client = seeds::random("nothing_is_held_back").bytes(14407 * 20 + 300);
     let frames = mapped(&client, (14407, 1));
     for (more, turns) in [(0, 20), (300, 20)] {
         let cut = |input: &[u8], length: usize, written: &dyn Fn(usize) -> usize| {
@@ -509,7 +509,7 @@ fn nothing_is_held_back() {
 /// A rest is told exactly where the input ends within a load. The second has a byte more.
 #[test]
 fn input_that_ends_around_a_load() {
-    let input = Random::new(16).bytes(57_630);
+    let input = seeds::random("input_that_ends_around_a_load").bytes(57_630);
     let cases = [
         (0, "odu0map: frames 0, bytes 0\n"),
         (1, "odu0map: 1 bytes left at the end\nodu0map: frames 0, bytes 0\n"),
@@ -534,7 +534,7 @@ fn input_that_ends_around_a_load() {
 /// A rest is told exactly where the input ends within a frame.
 #[test]
 fn input_that_ends_around_a_frame() {
-    let frames = mapped(&Random::new(17).bytes(57_629), USUAL).out;
+    let frames = mapped(&seeds::random("input_that_ends_around_a_frame").bytes(57_629), USUAL).out;
     let lines = ["frame 1: WAITING -\n", "frame 2: PAIRED 14407\n", "frame 3: READ 14407\n"];
     let (one, all_but_one) =
         ("odu0demap: 1 bytes left at the end\n", "odu0demap: 15239 bytes left at the end\n");

@@ -2,8 +2,7 @@
 
 use crate::feed::{pieces, run};
 use second::mapper::{Card, Expected, Settings, Sink, Taken};
-use second::seeds::cases;
-use second::Random;
+use second::{seeds, Random};
 use std::time::Duration;
 
 const SETTINGS: Settings = Settings::new(2, 0, 8);
@@ -115,14 +114,14 @@ fn a_rest_has_a_line_exactly_from_1_to_15_bytes() {
 #[test]
 fn frames_are_numbered_from_1() {
     assert_eq!(shown(vec![vec![0; 16 * 1200]], None), zero_lines(1200));
-    let shown = shown(vec![Random::new(7).bytes(16 * 700)], None);
+    let shown = shown(vec![seeds::random("frames_are_numbered_from_1").bytes(16 * 700)], None);
     let numbers: Vec<_> = shown.lines().map(|line| line.split_once(' ').unwrap().0).collect();
     assert_eq!(numbers, (1..=700).map(|number| number.to_string()).collect::<Vec<_>>());
 }
 
 #[test]
 fn random_input() {
-    cases("random_input", 60, |index, mut random| {
+    seeds::cases("random_input", 60, |index, mut random| {
         let frames = random.from_to(0, 300) as usize;
         let mut input = match index % 3 {
             0 => random.bytes(16 * frames),
@@ -141,7 +140,7 @@ fn random_input() {
 /// Frame numbers of many digits, and more input than a pipe holds.
 #[test]
 fn a_long_input() {
-    let mut random = Random::new(5);
+    let mut random = seeds::random("a_long_input");
     let mut input = written(&mut random, 120_000);
     input.extend([0; 7]);
     let (shown, wanted) = (shown(vec![input.clone()], None), lines(&input));
@@ -157,7 +156,7 @@ fn a_long_input() {
 /// Small pieces with pauses between them, so that the program reads less than a frame at a time.
 #[test]
 fn slow_input() {
-    let mut random = Random::new(6);
+    let mut random = seeds::random("slow_input");
     let mut input = written(&mut random, 20);
     input.extend([0xFF; 11]);
     let pieces = pieces(&mut random, &input, 9);
