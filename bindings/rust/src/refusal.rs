@@ -34,7 +34,7 @@ pub enum Refusal {
 
 impl Refusal {
     /// Every refusal, in the order of their numbers.
-    pub const ALL: [Refusal; 11] = [
+    pub const ALL: &[Refusal] = &[
         Refusal::Grid,
         Refusal::Window,
         Refusal::Divisor,
@@ -76,7 +76,7 @@ pub(crate) fn accepted(number: u32) -> Result<(), Refusal> {
     if number == 0 {
         return Ok(());
     }
-    match Refusal::ALL.into_iter().find(|refusal| refusal.number() == number) {
+    match Refusal::ALL.iter().copied().find(|refusal| refusal.number() == number) {
         Some(refusal) => Err(refusal),
         None => panic!("libodu0 answered refusal {number}, which odu0.h does not have"),
     }

@@ -678,7 +678,8 @@ fn names_and_numbers() {
     let first = ["grid", "window", "divisor", "rate", "state"];
     let names = first.into_iter().chain(["count", "client", "frame", "space", "port"]);
     let numbered: Vec<_> = (1..).zip(names).chain([(14, "patterns")]).collect();
-    let all = Refusal::ALL.map(|refusal| (refusal.number(), refusal.name()));
+    let all: Vec<_> =
+        Refusal::ALL.iter().map(|refusal| (refusal.number(), refusal.name())).collect();
     assert_eq!(all[..], numbered);
     let standings = [Standing::Read(1), Standing::Tracked(2), Standing::Paired(3)];
     assert_eq!(standings.map(Standing::name), ["READ", "TRACKED", "PAIRED"]);
