@@ -27,7 +27,7 @@ fn main() {
     let objects = OBJECTS.map(|(name, source, told)| {
         let (source, object) = (format!("src/{source}.c"), out.join(format!("{name}.o")));
         run(Command::new("gcc")
-            .args(["-std=gnu99", "-O3", "-Wall", "-Wextra", "-I../bindings/c"])
+            .args(["-std=gnu99", "-O3", "-Wall", "-Wextra", "-I../bindings/c/include"])
             .args(told)
             .args(["-c", &source, "-o"])
             .arg(&object));
@@ -38,5 +38,5 @@ fn main() {
     println!("cargo:rustc-link-search=native={}", out.display());
     println!("cargo:rustc-link-lib=static=placing");
     println!("cargo:rerun-if-changed=src/mapper/placing.h");
-    println!("cargo:rerun-if-changed=../bindings/c/odu0.h");
+    println!("cargo:rerun-if-changed=../bindings/c/include/odu0.h");
 }

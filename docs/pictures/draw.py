@@ -5,10 +5,10 @@
 
 frame.svg is the frame's layout, even.svg how evenly its client bytes lie, control.svg the bits of
 the control bytes, standings.svg the sink as a state machine, recovery.svg the two-frame recovery as
-tests/span.txt has it, ports.svg the tallies of a card as tests/ports.txt has them, types.svg three
-ports that check the payload type as tests/types.txt has them, and crates.svg the groups of crates
-as crates.txt lists them. With --check nothing is written; the exit status is 1 where a stored
-picture is not the one drawn.
+span.txt in tests/expected has it, ports.svg the tallies of a card as ports.txt there has them,
+types.svg three ports that check the payload type as types.txt there has them, and crates.svg the
+groups of crates as crates.txt lists them. With --check nothing is written; the exit status is 1 if
+a stored picture is not the one drawn.
 """
 import functools
 import itertools
@@ -18,9 +18,10 @@ import sys
 
 HERE = pathlib.Path(__file__).resolve().parent
 CRATES = HERE.parents[1] / "crates.txt"
-SPAN = HERE.parents[1] / "tests" / "span.txt"
-PORTS = HERE.parents[1] / "tests" / "ports.txt"
-TYPES = HERE.parents[1] / "tests" / "types.txt"
+EXPECTED = HERE.parents[1] / "tests" / "expected"
+SPAN = EXPECTED / "span.txt"
+PORTS = EXPECTED / "ports.txt"
+TYPES = EXPECTED / "types.txt"
 WIDTH = 900
 
 INK, DIM, BAND = "#222", "#777", "#f4f4f4"
@@ -401,7 +402,7 @@ def ports():
 
 
 def type_rows(port, last):
-    """A port's three rows as tests/types.txt has them: what arrives, is accepted and handed out.
+    """A port's three rows as types.txt has them: what arrives, is accepted and handed out.
 
     Each is a list of parts: first frame, end, what it says, and its colour.
     """

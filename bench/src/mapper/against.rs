@@ -43,8 +43,8 @@ impl Library {
         // SAFETY: these are the functions of odu0.h, and the check as bench/against exports it.
         unsafe {
             Library {
-                source: transmute::<*mut c_void, SourceCall>(find("odu0_source_call")),
-                sink: transmute::<*mut c_void, SinkCall>(find("odu0_sink_call")),
+                source: transmute::<*mut c_void, SourceCall>(find("odu0_v1_source_call")),
+                sink: transmute::<*mut c_void, SinkCall>(find("odu0_v1_sink_call")),
                 check: transmute::<*mut c_void, Check>(find("odu0_check")),
             }
         }

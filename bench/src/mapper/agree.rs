@@ -55,11 +55,13 @@ fn agree_on_places(job: &Job) {
 
 /// With the type check on the fourth frame is handed out, and the three before it are not.
 fn agree_typed(job: &Job) {
-    let (on, mut sink, count) = (job.settings.with_type_check(), job.sink(), job.count());
+    let (on, mut sink, count) = (job.settings, job.sink(), job.count());
     let mut out = vec![0; 4 * job.k()];
     for frame in 1..=4 {
         out.fill(0);
-        let taken = sink.call(on, TOLD, &job.frame, &mut out, 1, &mut Tallies::new()).unwrap();
+        let taken =
+            sink.demap_frame_expecting(on, TOLD, &job.frame, &mut out, 1, &mut Tallies::new());
+        let taken = taken.unwrap();
         let handed = if frame == 4 { count } else { 0 };
         assert_eq!(taken.handed as usize, handed, "k {}, count {count}, frame {frame}", on.k);
         assert!(out[..handed] == job.client[..handed], "k {}, count {count}", on.k);
@@ -73,7 +75,7 @@ fn agree_mended(job: &Job) {
     for wrong in (0..24).map(Some).chain([None]) {
         out.fill(0);
         job.turn_over(&mut frame, wrong);
-        let taken = sink.call(on, TOLD, &frame, &mut out, 1, &mut Tallies::new()).unwrap();
+        let taken = sink.demap_frame(on, &frame, &mut out, 1, &mut Tallies::new()).unwrap();
         job.turn_over(&mut frame, wrong);
         assert_eq!((taken.mended, sink.count), (wrong.is_some(), Some(count)), "{wrong:?}");
         assert!(out.starts_with(&job.client), "k {}, count {count}, {wrong:?}", on.k);
@@ -90,8 +92,7 @@ fn any_settings(random: &mut Random) -> ffi::Settings {
         settings = settings.with_patterns(patterns);
     }
     settings.mending = random.seldom(2);
-    settings.type_check = random.seldom(2);
-    settings.into()
+    ffi::Settings { type_check: random.seldom(2).into(), ..settings.into() }
 }
 
 /// A count near another, or any.

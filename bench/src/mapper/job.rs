@@ -99,7 +99,7 @@ impl Job {
         let client: Vec<u8> = (0..count).map(|i| (i % 255 + 1) as u8).collect();
         let mut frame = vec![0; 4 * k as usize + 8];
         let mut source = Source::new(settings, count, 7).unwrap();
-        source.call(settings, count, &client, &mut frame).unwrap();
+        source.map_frame(settings, count, &client, &mut frame).unwrap();
         Job { settings, client: AtOffset::new(&client, 0), frame: AtOffset::new(&frame, 0) }
     }
 

@@ -105,7 +105,7 @@ fn measure_mending(job: &Job) -> [f64; 3] {
         job.turn_over(&mut frame, wrong);
         let (mut out, mut tallies) = (out.borrow_mut(), tallies.borrow_mut());
         let (from, to) = (black_box(&frame[..]), black_box(&mut out[..]));
-        let taken = sink.borrow_mut().call(settings, TOLD, from, to, 1, &mut tallies).unwrap();
+        let taken = sink.borrow_mut().demap_frame(settings, from, to, 1, &mut tallies).unwrap();
         assert_eq!(taken.mended, wrong.is_some());
         job.turn_over(&mut frame, wrong);
     };
@@ -123,22 +123,25 @@ fn measure_mending(job: &Job) -> [f64; 3] {
 /// frame is judged; and where another type is expected, so that nothing is handed out. All three
 /// are lent the same buffers.
 fn measure_types(job: &Job) -> [f64; 3] {
-    let (off, on) = (job.settings, job.settings.with_type_check());
     let other = Expected { payload_type: 5, ..TOLD };
     let sink = RefCell::new(Sink { accepted: Some(7), ..job.sink() });
     let out = RefCell::new(vec![0; job.settings.hi as usize]);
     let tallies = RefCell::new(Tallies::new());
-    let take = |settings: Settings, told: Expected, handed: usize| {
+    let take = |told: Option<Expected>, handed: usize| {
         let (mut out, mut tallies) = (out.borrow_mut(), tallies.borrow_mut());
         let (from, to) = (black_box(&job.frame[..]), black_box(&mut out[..]));
-        let taken = sink.borrow_mut().call(settings, told, from, to, 1, &mut tallies).unwrap();
-        assert_eq!(taken.handed as usize, handed);
+        let (mut sink, settings) = (sink.borrow_mut(), job.settings);
+        let taken = match told {
+            Some(told) => sink.demap_frame_expecting(settings, told, from, to, 1, &mut tallies),
+            None => sink.demap_frame(settings, from, to, 1, &mut tallies),
+        };
+        assert_eq!(taken.unwrap().handed as usize, handed);
     };
     let count = job.count();
     race([
-        Box::new(|| take(off, TOLD, count)),
-        Box::new(|| take(on, TOLD, count)),
-        Box::new(|| take(on, other, 0)),
+        Box::new(|| take(None, count)),
+        Box::new(|| take(Some(TOLD), count)),
+        Box::new(|| take(Some(other), 0)),
     ])
 }
 
@@ -153,7 +156,7 @@ fn measure_ports(job: &Job) -> [f64; 2] {
         let (mut out, mut tallies) = (out.borrow_mut(), tallies.borrow_mut());
         let (from, to) = (black_box(&job.frame[..]), black_box(&mut out[..]));
         let port = 1 + turn.get();
-        sink.borrow_mut().call(job.settings, TOLD, from, to, port, &mut tallies).unwrap();
+        sink.borrow_mut().demap_frame(job.settings, from, to, port, &mut tallies).unwrap();
     };
     race([Box::new(|| take(1)), Box::new(|| take(PORTS))])
 }
@@ -161,7 +164,7 @@ fn measure_ports(job: &Job) -> [f64; 2] {
 /// Tallies whose numbers differ, up to the largest.
 fn some_tallies() -> Tallies {
     let number = |i: u32| u32::MAX - i * 150_000_000;
-    let tally = |i| Tally { frames: number(i), bad: number(i + 1), bytes: number(i + 2) };
+    let tally = |i| Tally { frames: number(i), badcheck: number(i + 1), bytes: number(i + 2) };
     Tallies { port: std::array::from_fn(|port| tally(3 * port as u32)) }
 }
 

@@ -17,7 +17,7 @@ struct patterns {
 
 static inline struct patterns patterns_of(const odu0_settings *settings)
 {
-    if (settings->given)
+    if (settings->has_patterns)
         return (struct patterns){
             {settings->plus1, settings->plus2, settings->minus1, settings->minus2}};
     return (struct patterns){{0x2AAA, 0x1999, 0x1555, 0x2666}};
@@ -240,7 +240,7 @@ odu0_sink_reply whole_sink_call(odu0_settings settings,
 
     tally = &tallies->port[port - 1];
     raise(&tally->frames, 1);
-    raise(&tally->bad, reply.standing == ODU0_BADCHECK);
+    raise(&tally->badcheck, reply.standing == ODU0_BADCHECK);
     raise(&tally->bytes, reply.handed);
     return reply;
 }

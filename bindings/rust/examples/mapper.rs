@@ -1,12 +1,11 @@
 //! A small job: a rate keeper, a source and a sink on OPU0. The sink begins to read in the middle
 //! of the source's run, at a frame whose word says only "one more than before"; and one frame is
-//! harmed on its way. bindings/c/example.c does the same and prints the same lines.
+//! harmed on its way. bindings/c/examples/mapper.c does the same and prints the same lines.
 
-use odu0::{Expected, Keeper, Refusal, Settings, Sink, Source, Tallies};
+use odu0::{Keeper, Rate, Refusal, Settings, Sink, Source, Tallies};
 
-/// The rate of 1000BASE-X is P / Q client bytes a frame.
-const P: u32 = 18671875;
-const Q: u32 = 1296;
+/// The rate of 1000BASE-X, in client bytes a frame.
+const GIGABIT: Rate = Rate { p: 18671875, q: 1296 };
 
 /// The sink reads from frame FROM, and frame HARMED is harmed.
 const FRAMES: u32 = 12;
@@ -18,24 +17,22 @@ const PORT: u32 = 1;
 
 fn main() -> Result<(), Refusal> {
     let opu0 = Settings::OPU0;
-    // The type check is off: any type may be expected.
-    let any = Expected { multiframe: 0, payload_type: 0 };
     let mut tallies = Tallies::new();
     let mut sink = Sink::new();
     let mut frame = vec![0; 15240];
     let mut out = vec![0; 14410];
 
     // The keeper's first count is the source's first; 07 is the payload type.
-    let mut keeper = Keeper::new(Q);
-    let mut source = Source::new(opu0, keeper.call(opu0, P, Q)?, 0x07)?;
+    let mut keeper = Keeper::new(GIGABIT);
+    let mut source = Source::new(opu0, keeper.next_count(opu0)?, 0x07)?;
 
     for n in 1..=FRAMES {
         // The client's bytes are a pattern that differs from frame to frame.
         let client: Vec<u8> = (0..source.count).map(|i| (i % 251 + n) as u8).collect();
 
         // The frame carries "count" of them and announces the count of the next.
-        let next = keeper.call(opu0, P, Q)?;
-        source.call(opu0, next, &client, &mut frame)?;
+        let next = keeper.next_count(opu0)?;
+        source.map_frame(opu0, next, &client, &mut frame)?;
 
         // On the way, two bits of JC1 and one of JC2 are turned over in one frame.
         if n == HARMED {
@@ -46,22 +43,22 @@ fn main() -> Result<(), Refusal> {
         if n < FROM {
             continue;
         }
-        let taken = sink.call(opu0, any, &frame, &mut out, PORT, &mut tallies)?;
+        let taken = sink.demap_frame(opu0, &frame, &mut out, PORT, &mut tallies)?;
         let count = taken.standing.count().map_or("-".to_string(), |count| count.to_string());
         let equal = out[..taken.handed as usize] == client[..];
         println!(
             "frame {n}: {}, count {count}, handed {}, equal {}",
-            taken.standing.name(),
+            taken.standing,
             taken.handed,
             if equal { "yes" } else { "no" }
         );
     }
     let tally = tallies.of(PORT).unwrap();
-    println!("tally: frames {}, bad {}, bytes {}", tally.frames, tally.bad, tally.bytes);
+    println!("tally: frames {}, badcheck {}, bytes {}", tally.frames, tally.badcheck, tally.bytes);
 
     // A frame that is one byte short is turned back, and changes nothing.
     frame.pop();
-    let refusal = sink.call(opu0, any, &frame, &mut out, PORT, &mut tallies).unwrap_err();
-    println!("a frame of {} bytes: refusal {}", frame.len(), refusal.number());
+    let refusal = sink.demap_frame(opu0, &frame, &mut out, PORT, &mut tallies).unwrap_err();
+    println!("a frame of {} bytes: refusal {} ({})", frame.len(), refusal.number(), refusal.name());
     Ok(())
 }

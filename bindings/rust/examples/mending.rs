@@ -1,8 +1,8 @@
 //! A long span that turns bits over: a source and a sink on OPU0. In four frames one control bit is
 //! wrong, once in JC3, and in one frame two are. The sink reads the frames once with mending off
-//! and once with mending on. bindings/c/mending.c does the same and prints the same lines.
+//! and once with mending on. bindings/c/examples/mending.c does the same and prints the same lines.
 
-use odu0::{Expected, Refusal, Settings, Sink, Source, Tallies};
+use odu0::{Refusal, Settings, Sink, Source, Tallies};
 
 /// The count of each frame, and at last the one that the last frame announces.
 const COUNTS: [u32; 13] =
@@ -37,8 +37,6 @@ fn yes(it_is: bool) -> &'static str {
 
 /// The whole job with these settings of the sink.
 fn job(settings: Settings) -> Result<(), Refusal> {
-    // The type check is off: any type may be expected.
-    let any = Expected { multiframe: 0, payload_type: 0 };
     let mut tallies = Tallies::new();
     let mut sink = Sink::new();
     let mut frame = vec![0; 15240];
@@ -53,27 +51,27 @@ fn job(settings: Settings) -> Result<(), Refusal> {
         let client: Vec<u8> = (0..source.count).map(|i| (i % 251 + n as u32) as u8).collect();
 
         // The frame carries them and announces the count of the next.
-        source.call(Settings::OPU0, next, &client, &mut frame)?;
+        source.map_frame(Settings::OPU0, next, &client, &mut frame)?;
 
         // On the way some control bits are turned over.
         for (row, bits) in WRONG[n - 1].into_iter().enumerate() {
             frame[row * 3810 + 1] ^= bits;
         }
 
-        let taken = sink.call(settings, any, &frame, &mut out, PORT, &mut tallies)?;
+        let taken = sink.demap_frame(settings, &frame, &mut out, PORT, &mut tallies)?;
         let count = taken.standing.count().map_or("-".to_string(), |count| count.to_string());
         let equal = out[..taken.handed as usize] == client[..];
         whole += u32::from(equal);
         println!(
             "frame {n}: {}, count {count}, mended {}, handed {}, equal {}",
-            taken.standing.name(),
+            taken.standing,
             yes(taken.mended),
             taken.handed,
             yes(equal)
         );
     }
     let tally = tallies.of(PORT).unwrap();
-    println!("tally: frames {}, bad {}, bytes {}", tally.frames, tally.bad, tally.bytes);
+    println!("tally: frames {}, badcheck {}, bytes {}", tally.frames, tally.badcheck, tally.bytes);
     println!("loads that arrived whole: {whole} of {}", WRONG.len());
     Ok(())
 }

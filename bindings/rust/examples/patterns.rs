@@ -1,9 +1,9 @@
 //! A card older than the standard: a source and a sink on OPU0 whose settings carry the inversion
 //! patterns of a customer. The sink begins to read at the second frame. Then it is seen that a sink
 //! with the standard's patterns does not follow this source, and that patterns which break the rule
-//! are turned back. bindings/c/patterns.c does the same and prints the same lines.
+//! are turned back. bindings/c/examples/patterns.c does the same and prints the same lines.
 
-use odu0::{Expected, Patterns, Refusal, Settings, Sink, Source, Tallies};
+use odu0::{Patterns, Refusal, Settings, Sink, Source, Tallies};
 
 /// The customer's table, from C1 to C14. The two for plus differ in 10100101101001, and so do the
 /// two for minus.
@@ -27,8 +27,6 @@ const OTHER: u32 = 2;
 
 fn main() -> Result<(), Refusal> {
     let customer = Settings::OPU0.with_patterns(TABLE);
-    // The type check is off: any type may be expected.
-    let any = Expected { multiframe: 0, payload_type: 0 };
     let mut tallies = Tallies::new();
     let (mut sink, mut other) = (Sink::new(), Sink::new());
     let mut said = Vec::new();
@@ -43,24 +41,24 @@ fn main() -> Result<(), Refusal> {
         let client: Vec<u8> = (0..source.count).map(|i| (i % 251 + n as u32) as u8).collect();
 
         // The frame carries them and announces the count of the next.
-        source.call(customer, next, &client, &mut frame)?;
+        source.map_frame(customer, next, &client, &mut frame)?;
         if n < FROM {
             continue;
         }
 
         // Another sink reads the first two of these frames with the standard's patterns.
         if n < FROM + 2 {
-            let taken = other.call(Settings::OPU0, any, &frame, &mut out, OTHER, &mut tallies)?;
-            said.push(taken.standing.name());
+            let taken = other.demap_frame(Settings::OPU0, &frame, &mut out, OTHER, &mut tallies)?;
+            said.push(taken.standing);
         }
 
         // With the customer's patterns the count is there after two frames.
-        let taken = sink.call(customer, any, &frame, &mut out, PORT, &mut tallies)?;
+        let taken = sink.demap_frame(customer, &frame, &mut out, PORT, &mut tallies)?;
         let count = taken.standing.count().map_or("-".to_string(), |count| count.to_string());
         let equal = out[..taken.handed as usize] == client[..];
         println!(
             "frame {n}: {}, count {count}, handed {}, equal {}",
-            taken.standing.name(),
+            taken.standing,
             taken.handed,
             if equal { "yes" } else { "no" }
         );
@@ -76,12 +74,17 @@ fn main() -> Result<(), Refusal> {
 
     // With one bit of −2 turned over, the two for minus differ elsewhere than the two for plus.
     let broken = Settings::OPU0.with_patterns(Patterns { minus2: TABLE.minus2 ^ 1, ..TABLE });
-    let refusal = sink.call(broken, any, &frame, &mut out, PORT, &mut tallies).unwrap_err();
-    println!("one bit of -2 turned over: refusal {}", refusal.number());
+    let refusal = sink.demap_frame(broken, &frame, &mut out, PORT, &mut tallies).unwrap_err();
+    println!("one bit of -2 turned over: refusal {} ({})", refusal.number(), refusal.name());
 
     // The lowest number that applies is the answer: a short output buffer comes first.
     out.pop();
-    let refusal = sink.call(broken, any, &frame, &mut out, PORT, &mut tallies).unwrap_err();
-    println!("and an output buffer of {} bytes: refusal {}", out.len(), refusal.number());
+    let refusal = sink.demap_frame(broken, &frame, &mut out, PORT, &mut tallies).unwrap_err();
+    println!(
+        "and an output buffer of {} bytes: refusal {} ({})",
+        out.len(),
+        refusal.number(),
+        refusal.name()
+    );
     Ok(())
 }

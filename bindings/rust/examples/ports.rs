@@ -1,8 +1,8 @@
 //! A card with eight ports: for each a source and a sink on OPU0, and one set of tallies for the
 //! card. The span of one port turns control bits over in some frames, and the tallies tell which
-//! port it is. bindings/c/ports.c does the same and prints the same lines.
+//! port it is. bindings/c/examples/ports.c does the same and prints the same lines.
 
-use odu0::{Expected, Refusal, Settings, Sink, Source, Tallies, PORTS};
+use odu0::{Refusal, Settings, Sink, Source, Tallies, PORTS};
 
 /// Each frame carries COUNT client bytes.
 const COUNT: u32 = 14407;
@@ -15,8 +15,6 @@ const TO: u32 = 1005;
 
 fn main() -> Result<(), Refusal> {
     let opu0 = Settings::OPU0;
-    // The type check is off: any type may be expected.
-    let any = Expected { multiframe: 0, payload_type: 0 };
     let mut tallies = Tallies::new();
     // The client's bytes do not matter here: they stay zero.
     let client = [0; COUNT as usize];
@@ -31,7 +29,7 @@ fn main() -> Result<(), Refusal> {
 
     for n in 1..=FRAMES {
         for (port, source, sink) in &mut ports {
-            source.call(opu0, COUNT, &client, &mut frame)?;
+            source.map_frame(opu0, COUNT, &client, &mut frame)?;
 
             // On the way two bits of JC1 are turned over.
             if *port == BAD && (FROM..=TO).contains(&n) {
@@ -39,26 +37,26 @@ fn main() -> Result<(), Refusal> {
             }
 
             // Each call names its port, and is lent the tallies of the whole card.
-            sink.call(opu0, any, &frame, &mut out, *port, &mut tallies)?;
+            sink.demap_frame(opu0, &frame, &mut out, *port, &mut tallies)?;
         }
     }
 
     println!("port    frames  BADCHECK       bytes");
     for (port, tally) in (1..).zip(tallies.port) {
-        println!("{port:4} {:9} {:9} {:11}", tally.frames, tally.bad, tally.bytes);
+        println!("{port:4} {:9} {:9} {:11}", tally.frames, tally.badcheck, tally.bytes);
     }
 
     // Here the sum of the bytes has more than 32 bits.
     let total = tallies.total();
-    println!("card {:9} {:9} {:11}", total.frames, total.bad, total.bytes);
+    println!("card {:9} {:9} {:11}", total.frames, total.badcheck, total.bytes);
     for (port, tally) in (1..).zip(tallies.port) {
-        if tally.bad > 0 {
+        if tally.badcheck > 0 {
             println!("the BADCHECK frames are on port {port}");
         }
     }
 
     // There is no port 9: the call is turned back, and changes nothing.
-    let refusal = Sink::new().call(opu0, any, &frame, &mut out, 9, &mut tallies).unwrap_err();
-    println!("port 9: refusal {}", refusal.number());
+    let refusal = Sink::new().demap_frame(opu0, &frame, &mut out, 9, &mut tallies).unwrap_err();
+    println!("port 9: refusal {} ({})", refusal.number(), refusal.name());
     Ok(())
 }

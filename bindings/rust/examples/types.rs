@@ -1,7 +1,7 @@
 //! A card whose sinks check the payload type, on a small grid. Two clients send at one rate, of
 //! types 7 and 5, and every port is to carry the one of type 7. Port 1 has the right cord, that of
 //! port 2 is swapped from the first frame on, and that of port 3 is swapped in service, after type
-//! 7 was accepted. bindings/c/types.c does the same and prints the same lines.
+//! 7 was accepted. bindings/c/examples/types.c does the same and prints the same lines.
 
 use odu0::{Expected, Refusal, Settings, Sink, Source, Tallies};
 
@@ -33,7 +33,7 @@ impl Client {
     fn send(&mut self, settings: Settings) -> Result<(), Refusal> {
         let Source { count, payload_type, .. } = self.source;
         let client = vec![payload_type; count as usize];
-        self.source.call(settings, LOW + HIGH - count, &client, &mut self.frame)
+        self.source.map_frame(settings, LOW + HIGH - count, &client, &mut self.frame)
     }
 }
 
@@ -47,7 +47,7 @@ struct Port {
 }
 
 fn main() -> Result<(), Refusal> {
-    let settings = Settings::new(2, 0, 8).with_type_check();
+    let settings = Settings::new(2, 0, 8);
     let mut tallies = Tallies::new();
     let mut out = [0; 8];
     let mut right = Client::new(settings, RIGHT)?;
@@ -71,7 +71,14 @@ fn main() -> Result<(), Refusal> {
             at.swapped = swapped;
             let frame = if swapped { &other.frame } else { &right.frame };
             let before = at.sink.clone();
-            let taken = at.sink.call(settings, expected, frame, &mut out, port, &mut tallies)?;
+            let taken = at.sink.demap_frame_expecting(
+                settings,
+                expected,
+                frame,
+                &mut out,
+                port,
+                &mut tallies,
+            )?;
             let handed = &out[..taken.handed as usize];
             at.others += handed.iter().filter(|byte| **byte != RIGHT).count();
 
@@ -93,7 +100,10 @@ fn main() -> Result<(), Refusal> {
 
     println!("port    frames  BADCHECK       bytes  of the other client");
     for ((port, at), tally) in (1..).zip(&ports).zip(tallies.port) {
-        println!("{port:4} {:9} {:9} {:11} {:20}", tally.frames, tally.bad, tally.bytes, at.others);
+        println!(
+            "{port:4} {:9} {:9} {:11} {:20}",
+            tally.frames, tally.badcheck, tally.bytes, at.others
+        );
     }
     for (port, at) in (1..).zip(&ports) {
         if let Some(accepted) = at.sink.accepted.filter(|accepted| *accepted != RIGHT) {

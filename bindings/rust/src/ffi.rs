@@ -1,20 +1,20 @@
-//! The C interface as bindings/c/odu0.h gives it: the functions, and those of their types that Rust
-//! says in another way.
+//! The C interface as bindings/c/include/odu0.h gives it: the functions of the archive, whose
+//! names carry the version, and those of their types that Rust says in another way.
 
 #![allow(missing_docs)]
 
 use crate::{Expected, Source, Tallies, Total};
 
-/// odu0_settings: a `given` of 0 says the standard's patterns, whatever the four numbers after it
-/// are; any other value says that they are the patterns. A `mending` of 0 says off, any other value
-/// on, and so does a `type_check`.
+/// odu0_settings: a `has_patterns` of 0 says the standard's patterns, whatever the four numbers
+/// after it are; any other value says that they are the patterns. A `mending` of 0 says off, any
+/// other value on, and so does a `type_check`.
 #[repr(C)]
 #[derive(Clone, Copy, Debug, PartialEq, Eq)]
 pub struct Settings {
     pub k: u32,
     pub lo: u32,
     pub hi: u32,
-    pub given: u32,
+    pub has_patterns: u32,
     pub plus1: u32,
     pub minus1: u32,
     pub plus2: u32,
@@ -47,7 +47,7 @@ pub struct SourceReply {
     pub state: Source,
 }
 
-/// odu0_keeper_reply
+/// odu0_v1_keeper_reply
 #[repr(C)]
 #[derive(Clone, Copy, Debug, PartialEq, Eq)]
 pub struct KeeperReply {
@@ -70,7 +70,9 @@ pub struct SinkReply {
 }
 
 extern "C" {
+    #[link_name = "odu0_v1_source_new"]
     pub fn odu0_source_new(settings: Settings, first: u32, payload_type: u8) -> SourceReply;
+    #[link_name = "odu0_v1_source_call"]
     pub fn odu0_source_call(
         settings: Settings,
         state: Source,
@@ -80,9 +82,13 @@ extern "C" {
         frame: *mut u8,
         frame_len: usize,
     ) -> SourceReply;
+    #[link_name = "odu0_v1_keeper_new"]
     pub fn odu0_keeper_new(q: u32) -> u32;
+    #[link_name = "odu0_v1_keeper_call"]
     pub fn odu0_keeper_call(settings: Settings, p: u32, q: u32, remainder: u32) -> KeeperReply;
+    #[link_name = "odu0_v1_sink_new"]
     pub fn odu0_sink_new() -> Sink;
+    #[link_name = "odu0_v1_sink_call"]
     pub fn odu0_sink_call(
         settings: Settings,
         state: Sink,
@@ -94,5 +100,6 @@ extern "C" {
         port: u32,
         tallies: *mut Tallies,
     ) -> SinkReply;
+    #[link_name = "odu0_v1_card_total"]
     pub fn odu0_card_total(tallies: *const Tallies) -> Total;
 }

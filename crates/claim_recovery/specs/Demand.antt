@@ -98,7 +98,7 @@ abbrev pub HoldsCount : List SourceStep → (n : ℕ) → SinkState → List Sin
 HoldsCount sent n z reader = (x : SourceStep) × Nth sent n x × (sinkEnd z reader .count ≡ Known (countOf x))
 
 -- The same of one sink alone, in the state z from frame m, with no second sink beside it. 01 does
--- not ask for it; README, SUPPORT and odu0.h promise it.
+-- not ask for it; docs/PROMISES.md promises it.
 pub record RecoveredAlone (s : Settings) (sent : List SourceStep) (m n : ℕ) (z : SinkState) (reader : List SinkCall) : Type 0 where
   pub hold : HoldsCount sent n z reader
   pub deliver : (i : ℕ) → m + 2 ≤ i → i ≤ n → (x : SourceStep) × (y : SinkStep) × Nth sent i x × Nth (sinkSteps z reader) (i + 1 - m) y × Delivers s x y

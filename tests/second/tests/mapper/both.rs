@@ -134,7 +134,7 @@ impl Case {
             payload_type: state.payload_type,
         };
         let theirs = their_state
-            .call(settings_of(settings), next, their_client.lent(), their_frame.lent())
+            .map_frame(settings_of(settings), next, their_client.lent(), their_frame.lent())
             .map_err(odu0::Refusal::number);
         let ours = state.call(settings, next, client, frame);
         assert_eq!(theirs, ours, "the answer: library, second");
@@ -147,8 +147,8 @@ impl Case {
 
     pub fn keeper_new(&mut self, q: u32) -> Keeper {
         self.last = Some(Call::NewKeeper(q));
-        let (theirs, ours) = (odu0::Keeper::new(q), Keeper::new(q));
-        assert_eq!(theirs.remainder, ours.remainder, "a new keeper: library, second");
+        let (theirs, ours) = (odu0::Keeper::new(odu0::Rate { p: 0, q }), Keeper::new(q));
+        assert_eq!(theirs.remainder(), ours.remainder, "a new keeper: library, second");
         self.count_other(None);
         ours
     }
@@ -161,11 +161,11 @@ impl Case {
         q: u32,
     ) -> Result<u32, u32> {
         self.last = Some(Call::Keeper(settings, state.clone(), p, q));
-        let mut their_state = odu0::Keeper { remainder: state.remainder };
-        let theirs = their_state.call(settings_of(settings), p, q).map_err(odu0::Refusal::number);
+        let mut their_state = odu0::Keeper::resume(odu0::Rate { p, q }, state.remainder);
+        let theirs = their_state.next_count(settings_of(settings)).map_err(odu0::Refusal::number);
         let ours = state.call(settings, p, q);
         assert_eq!(theirs, ours, "the answer: library, second");
-        assert_eq!(their_state.remainder, state.remainder, "the remainder: library, second");
+        assert_eq!(their_state.remainder(), state.remainder, "the remainder: library, second");
         self.count_other(ours.as_ref().err());
         ours
     }
@@ -236,17 +236,14 @@ impl Case {
         let mut their_out = Lent::new(self.index, out);
         let mut their_state = sink_of(state);
         let mut their_card = LentCard::new(tallies);
-        let theirs = their_state
-            .call(
-                settings_of(settings),
-                expected_of(expected),
-                their_frame.lent(),
-                their_out.lent(),
-                port,
-                &mut their_card.tallies,
-            )
-            .map(taken_of)
-            .map_err(odu0::Refusal::number);
+        let (same, told) = (settings_of(settings), expected_of(expected));
+        let (lent, to, theirs) = (their_frame.lent(), their_out.lent(), &mut their_card.tallies);
+        let theirs = if settings.type_check {
+            their_state.demap_frame_expecting(same, told, lent, to, port, theirs)
+        } else {
+            their_state.demap_frame(same, lent, to, port, theirs)
+        };
+        let theirs = theirs.map(taken_of).map_err(odu0::Refusal::number);
         let ours = state.call(settings, expected, frame, out, port, card);
         assert_eq!(theirs, ours, "the answer: library, second");
         assert_eq!(their_state, sink_of(state), "the state: library, second");
@@ -284,13 +281,11 @@ impl Case {
     }
 }
 
+/// The wrapper's settings, which say nothing of the type check.
 pub fn settings_of(settings: Settings) -> odu0::Settings {
     let mut same = odu0::Settings::new(settings.k, settings.lo, settings.hi);
     if settings.mending {
         same = same.with_mending();
-    }
-    if settings.type_check {
-        same = same.with_type_check();
     }
     if settings.patterns.is_none() {
         return same;
@@ -325,7 +320,7 @@ fn taken_of(taken: odu0::Taken) -> Taken {
 }
 
 fn tally_of(tally: odu0::Tally) -> Tally {
-    Tally { frames: tally.frames, bad: tally.bad, bytes: tally.bytes }
+    Tally { frames: tally.frames, bad: tally.badcheck, bytes: tally.bytes }
 }
 
 fn standing_of(standing: odu0::Standing) -> Standing {
@@ -364,14 +359,18 @@ const EDGE: [u32; 9] = [0xA5A5_A5A5; 9];
 
 impl LentCard {
     pub fn new(tallies: [Tally; 8]) -> LentCard {
-        let port = tallies.map(|Tally { frames, bad, bytes }| odu0::Tally { frames, bad, bytes });
+        let port = tallies.map(|Tally { frames, bad, bytes }| odu0::Tally {
+            frames,
+            badcheck: bad,
+            bytes,
+        });
         LentCard { before: EDGE, tallies: odu0::Tallies { port }, behind: EDGE }
     }
 
     /// The numbers of all ports are those of the card, and so is the total, which changes nothing.
     pub fn must_be(&self, card: &Card) {
-        let odu0::Total { frames, bad, bytes } = self.tallies.total();
-        let total = [frames, bad, bytes].map(u128::from);
+        let odu0::Total { frames, badcheck, bytes } = self.tallies.total();
+        let total = [frames, badcheck, bytes].map(u128::from);
         let tallies = self.tallies.port.map(tally_of);
         assert_eq!(tallies, card.tallies(), "the tallies: library, second");
         assert_eq!(total, card.total(), "the card's total: library, second");

@@ -2,16 +2,16 @@
 //! P2, P4 and P11, run against the library: those that are proved as well, and the others.
 
 use odu0::{
-    Expected, Keeper, Patterns, Refusal, Seen, Settings, Sink, Source, Standing, Taken, Tallies,
-    Tally, Total, PORTS,
+    Expected, Keeper, Patterns, Rate, Refusal, Seen, Settings, Sink, Source, Standing, Taken,
+    Tallies, Tally, Total, PORTS,
 };
 
 const OPU0: Settings = Settings::OPU0;
 const WIDE: Settings = Settings::new(3808, 0, 15232);
 const EIGHT: Settings = Settings::new(2, 0, 8);
 
-/// What a call is told where the type check is off.
-const ANY: Expected = Expected { multiframe: 0, payload_type: 0 };
+/// The rate of 1000BASE-X.
+const GIGABIT: Rate = Rate { p: 18671875, q: 1296 };
 
 /// Where JC1, JC2 and JC3 stand.
 fn control_bytes(settings: Settings) -> [usize; 3] {
@@ -28,7 +28,7 @@ fn opu0_with([plus1, minus1, plus2, minus2]: [u32; 4]) -> Settings {
 fn announced(settings: Settings, old: u32, next: u32) -> [u8; 3] {
     let mut source = Source { count: old, multiframe: 0, payload_type: 0 };
     let mut frame = vec![0xEE; 4 * settings.k as usize + 8];
-    source.call(settings, next, &vec![0x55; old as usize], &mut frame).unwrap();
+    source.map_frame(settings, next, &vec![0x55; old as usize], &mut frame).unwrap();
     assert_eq!(source, Source { count: next, multiframe: 1, payload_type: 0 });
     control_bytes(settings).map(|at| frame[at])
 }
@@ -40,7 +40,7 @@ fn taken(sink: &mut Sink, settings: Settings, control: [u8; 3]) -> Taken {
         frame[at] = byte;
     }
     let mut out = vec![0; settings.hi as usize];
-    sink.call(settings, ANY, &frame, &mut out, 1, &mut Tallies::new()).unwrap()
+    sink.demap_frame(settings, &frame, &mut out, 1, &mut Tallies::new()).unwrap()
 }
 
 /// What a sink says of such a frame, in which nothing is mended.
@@ -95,7 +95,7 @@ fn places_of_eight() {
         let client: Vec<u8> = (0xC1..).take(count as usize).collect();
         let mut frame = [0xEE; 16];
         let mut source = Source::new(EIGHT, count, 0x07).unwrap();
-        source.call(EIGHT, count, &client, &mut frame).unwrap();
+        source.map_frame(EIGHT, count, &client, &mut frame).unwrap();
         // Payload byte n, from 1, is in row (n - 1) / 2, behind the row's first two bytes.
         let payload: Vec<u8> = (1..=8).map(|n| frame[(n - 1) / 2 * 4 + 2 + (n - 1) % 2]).collect();
         let mut wanted = [0; 8];
@@ -109,12 +109,12 @@ fn places_of_eight() {
         let by_place = [0, 0, 1, 2, 0, 0, 3, 4, 0, 0, 5, 6, 0, 0, 7, 8];
         let (mut sink, mut tallies) = (Sink { count: Some(count), ..Sink::new() }, Tallies::new());
         let mut out = [0xEE; 9];
-        let taken = sink.call(EIGHT, ANY, &by_place, &mut out, 1, &mut tallies);
+        let taken = sink.demap_frame(EIGHT, &by_place, &mut out, 1, &mut tallies);
         let answer = Taken { standing: Standing::Read(0), handed: count, mended: false };
         assert_eq!(taken, Ok(answer));
         assert_eq!(out[..places.len()], *places);
         assert!(out[places.len()..].iter().all(|byte| *byte == 0xEE));
-        assert_eq!(tallies.of(1), Some(Tally { frames: 1, bad: 0, bytes: count }));
+        assert_eq!(tallies.of(1), Some(Tally { frames: 1, badcheck: 0, bytes: count }));
     }
 }
 
@@ -174,19 +174,15 @@ fn mended_words_outside_and_whole() {
     assert_eq!(said(&mut Sink::new(), EIGHT.with_mending(), [0; 3]), Standing::Read(0));
 }
 
-/// The settings keep their patterns with mending on, and mending with other patterns; and both with
-/// the type check on, which keeps them.
+/// The settings keep their patterns with mending on, and mending with other patterns.
 #[test]
 fn settings_with_both() {
     let patterns = Patterns { plus1: 0, minus1: 0, plus2: 1, minus2: 1 };
     let both = OPU0.with_patterns(patterns).with_mending();
     assert_eq!(both, OPU0.with_mending().with_patterns(patterns));
-    assert_eq!(both, Settings { patterns: Some(patterns), mending: true, ..OPU0 });
+    assert_eq!((both.patterns, both.mending), (Some(patterns), true));
+    assert_eq!((both.k, both.lo, both.hi), (OPU0.k, OPU0.lo, OPU0.hi));
     assert!(!OPU0.mending && !OPU0.with_patterns(patterns).mending);
-    let all = both.with_type_check();
-    assert_eq!(all, OPU0.with_type_check().with_mending().with_patterns(patterns));
-    assert_eq!(all, Settings { type_check: true, ..both });
-    assert!(!OPU0.type_check && !both.type_check);
     let mut sink = Sink::new();
     assert_eq!(said(&mut sink, both, [0xE1, 0x1E, 0x74]), Standing::Waiting);
     let answer = Taken { standing: Standing::Paired(14409), handed: 0, mended: true };
@@ -227,9 +223,9 @@ fn refused(settings: Settings) -> [Option<u32>; 4] {
     let mut tallies = Tallies::new();
     [
         Source::new(settings, 14407, 0).err(),
-        source.call(settings, 14407, &client, &mut frame).err(),
-        Keeper::new(1296).call(settings, 18671875, 1296).err(),
-        Sink::new().call(settings, ANY, &frame, &mut out, 8, &mut tallies).err(),
+        source.map_frame(settings, 14407, &client, &mut frame).err(),
+        Keeper::new(GIGABIT).next_count(settings).err(),
+        Sink::new().demap_frame(settings, &frame, &mut out, 8, &mut tallies).err(),
     ]
     .map(|refusal| refusal.map(Refusal::number))
 }
@@ -270,23 +266,24 @@ fn broken_patterns_are_judged_last() {
     let mut source = Source { count: 14407, multiframe: 0, payload_type: 0 };
     let (mut frame, mut out, mut tallies) = (vec![0xEE; 15240], vec![0xEE; 14409], Tallies::new());
     let mut sink = Sink::new();
-    let refusal = sink.call(broken, ANY, &frame, &mut out, 0, &mut tallies).unwrap_err();
+    let refusal = sink.demap_frame(broken, &frame, &mut out, 0, &mut tallies).unwrap_err();
     assert_eq!((refusal.number(), refusal.name()), (9, "space"));
-    let refusal = source.call(broken, 14411, &[0; 14407], &mut frame).unwrap_err();
+    let refusal = source.map_frame(broken, 14411, &[0; 14407], &mut frame).unwrap_err();
     assert_eq!((refusal.number(), refusal.name()), (6, "count"));
-    let refusal = Keeper::new(1296).call(broken, 18671875 + 10000, 1296).unwrap_err();
+    let refusal =
+        Keeper::new(Rate { p: 18671875 + 10000, q: 1296 }).next_count(broken).unwrap_err();
     assert_eq!((refusal.number(), refusal.name()), (4, "rate"));
     assert_eq!(Source::new(broken, 14411, 0).unwrap_err().number(), 5);
 
     // The port comes before it and after the output buffer.
     out.push(0xEE);
-    let refusal = sink.call(broken, ANY, &frame, &mut out, 0, &mut tallies).unwrap_err();
+    let refusal = sink.demap_frame(broken, &frame, &mut out, 0, &mut tallies).unwrap_err();
     assert_eq!((refusal.number(), refusal.name()), (10, "port"));
 
     // Alone it is the answer, and nothing is changed.
-    let refusal = sink.call(broken, ANY, &frame, &mut out, 8, &mut tallies).unwrap_err();
+    let refusal = sink.demap_frame(broken, &frame, &mut out, 8, &mut tallies).unwrap_err();
     assert_eq!((refusal, refusal.number(), refusal.name()), (Refusal::Patterns, 14, "patterns"));
-    assert_eq!(source.call(broken, 14407, &[0; 14407], &mut frame), Err(Refusal::Patterns));
+    assert_eq!(source.map_frame(broken, 14407, &[0; 14407], &mut frame), Err(Refusal::Patterns));
     assert_eq!(source, Source { count: 14407, multiframe: 0, payload_type: 0 });
     assert_eq!((sink, tallies), (Sink::new(), Tallies::new()));
     assert!(frame.iter().chain(&out).all(|byte| *byte == 0xEE));
@@ -294,9 +291,9 @@ fn broken_patterns_are_judged_last() {
 
 #[test]
 fn rate_of_1000base_x() {
-    let mut keeper = Keeper::new(1296);
-    assert_eq!(keeper.remainder, 648);
-    let counts = [(); 5].map(|()| keeper.call(OPU0, 18671875, 1296));
+    let mut keeper = Keeper::new(GIGABIT);
+    assert_eq!((keeper.rate(), keeper.remainder()), (GIGABIT, 648));
+    let counts = [(); 5].map(|()| keeper.next_count(OPU0));
     assert_eq!(counts, [Ok(14407), Ok(14408), Ok(14407), Ok(14407), Ok(14408)]);
 }
 
@@ -305,22 +302,22 @@ fn rate_of_1000base_x() {
 #[test]
 fn rates_rounded_by_hand() {
     let settings = Settings::new(1, 0, 1);
-    let mut keeper = Keeper::new(2);
-    assert_eq!([(); 4].map(|()| keeper.call(settings, 1, 2)), [Ok(1), Ok(0), Ok(1), Ok(0)]);
-    let mut keeper = Keeper::new(3);
-    assert_eq!([(); 3].map(|()| keeper.call(settings, 1, 3)), [Ok(0), Ok(1), Ok(0)]);
+    let mut keeper = Keeper::new(Rate { p: 1, q: 2 });
+    assert_eq!([(); 4].map(|()| keeper.next_count(settings)), [Ok(1), Ok(0), Ok(1), Ok(0)]);
+    let mut keeper = Keeper::new(Rate { p: 1, q: 3 });
+    assert_eq!([(); 3].map(|()| keeper.next_count(settings)), [Ok(0), Ok(1), Ok(0)]);
 }
 
 /// Four counts of one keeper, beside two counts and, after a restart, two more.
 #[test]
 fn a_restarted_keeper_begins_a_new_sum() {
     let total = |keeper: &mut Keeper, times| -> u32 {
-        (0..times).map(|_| keeper.call(OPU0, 18671875, 1296).unwrap()).sum()
+        (0..times).map(|_| keeper.next_count(OPU0).unwrap()).sum()
     };
-    assert_eq!(total(&mut Keeper::new(1296), 4), 57629);
-    let mut keeper = Keeper::new(1296);
+    assert_eq!(total(&mut Keeper::new(GIGABIT), 4), 57629);
+    let mut keeper = Keeper::new(GIGABIT);
     let before = total(&mut keeper, 2);
-    keeper = Keeper::new(1296);
+    keeper = Keeper::new(GIGABIT);
     assert_eq!((before, total(&mut keeper, 2)), (28815, 28815));
 }
 
@@ -334,10 +331,10 @@ fn the_largest_grid() {
         let mut out = vec![0; 14410];
         let mut source = Source { count: 14405, multiframe: 0, payload_type: 0 };
         assert_eq!(Source::new(settings, 14405, 0).err(), refusal);
-        assert_eq!(source.call(settings, 14405, &client, &mut frame).err(), refusal);
-        assert_eq!(Keeper::new(1296).call(settings, 18671875, 1296).err(), refusal);
+        assert_eq!(source.map_frame(settings, 14405, &client, &mut frame).err(), refusal);
+        assert_eq!(Keeper::new(GIGABIT).next_count(settings).err(), refusal);
         assert_eq!(
-            Sink::new().call(settings, ANY, &frame, &mut out, 1, &mut Tallies::new()).err(),
+            Sink::new().demap_frame(settings, &frame, &mut out, 1, &mut Tallies::new()).err(),
             refusal
         );
     }
@@ -349,7 +346,7 @@ fn the_smallest_output_buffer() {
         let frame = vec![0; 4 * settings.k as usize + 8];
         let (mut out, mut tallies) = (vec![0; settings.hi as usize], Tallies::new());
         let mut call =
-            |out: &mut [u8]| Sink::new().call(settings, ANY, &frame, out, 1, &mut tallies);
+            |out: &mut [u8]| Sink::new().demap_frame(settings, &frame, out, 1, &mut tallies);
         assert!(call(&mut out).is_ok());
         assert_eq!(call(&mut out[1..]).err(), Some(Refusal::Space));
         assert_eq!(tallies.total().frames, 1);
@@ -359,10 +356,10 @@ fn the_smallest_output_buffer() {
 #[test]
 fn a_frame_one_byte_short() {
     let (mut frame, mut out, mut tallies) = (vec![0xEE; 15239], vec![0xEE; 14410], Tallies::new());
-    let refusal = Sink::new().call(OPU0, ANY, &frame, &mut out, 1, &mut tallies).unwrap_err();
+    let refusal = Sink::new().demap_frame(OPU0, &frame, &mut out, 1, &mut tallies).unwrap_err();
     assert_eq!((refusal, refusal.number(), refusal.name()), (Refusal::Frame, 8, "frame"));
     let mut source = Source::new(OPU0, 14407, 0x07).unwrap();
-    let refusal = source.call(OPU0, 14407, &[0; 14407], &mut frame).unwrap_err();
+    let refusal = source.map_frame(OPU0, 14407, &[0; 14407], &mut frame).unwrap_err();
     assert_eq!(refusal.number(), 8);
     assert_eq!(source, Source { count: 14407, multiframe: 0, payload_type: 0x07 });
     assert!(frame.iter().chain(&out).all(|byte| *byte == 0xEE));
@@ -382,22 +379,22 @@ fn ports_of_a_card() {
         (3, 5, [0; 3], (2, 1, 13)),
         (3, 1, [0xFF; 3], (3, 2, 14)),
     ];
-    for (port, count, [jc1, jc2, jc3], (frames, bad, bytes)) in calls {
+    for (port, count, [jc1, jc2, jc3], (frames, badcheck, bytes)) in calls {
         let frame = [0, jc1, 1, 2, 0, jc2, 3, 4, 0, jc3, 5, 6, 0, 0, 7, 8];
         let mut sink = Sink { count: Some(count), ..Sink::new() };
-        sink.call(EIGHT, ANY, &frame, &mut [0; 8], port, &mut tallies).unwrap();
-        wanted.port[port as usize - 1] = Tally { frames, bad, bytes };
+        sink.demap_frame(EIGHT, &frame, &mut [0; 8], port, &mut tallies).unwrap();
+        wanted.port[port as usize - 1] = Tally { frames, badcheck, bytes };
         assert_eq!(tallies, wanted);
     }
-    assert_eq!(tallies.total(), Total { frames: 5, bad: 2, bytes: 17 });
-    assert_eq!(tallies.of(3), Some(Tally { frames: 3, bad: 2, bytes: 14 }));
+    assert_eq!(tallies.total(), Total { frames: 5, badcheck: 2, bytes: 17 });
+    assert_eq!(tallies.of(3), Some(Tally { frames: 3, badcheck: 2, bytes: 14 }));
     assert_eq!([0, 9, u32::MAX].map(|port| tallies.of(port)), [None; 3]);
 
     // No card has a port 0 or 9.
     for port in [0, PORTS + 1] {
         let mut sink = Sink { count: Some(3), ..Sink::new() };
         let mut out = [0xEE; 8];
-        let refusal = sink.call(EIGHT, ANY, &[0; 16], &mut out, port, &mut tallies).unwrap_err();
+        let refusal = sink.demap_frame(EIGHT, &[0; 16], &mut out, port, &mut tallies).unwrap_err();
         assert_eq!((refusal, refusal.number(), refusal.name()), (Refusal::Port, 10, "port"));
         assert_eq!((sink.count, out, tallies), (Some(3), [0xEE; 8], wanted));
     }
@@ -407,15 +404,15 @@ fn ports_of_a_card() {
 #[test]
 fn the_largest_numbers_of_a_card() {
     let most = u32::MAX;
-    let full = Tally { frames: most, bad: most, bytes: most };
-    let near = Tally { frames: most, bad: most - 1, bytes: most - 7 };
+    let full = Tally { frames: most, badcheck: most, bytes: most };
+    let near = Tally { frames: most, badcheck: most - 1, bytes: most - 7 };
     let mut tallies = Tallies { port: [full; 8] };
     tallies.port[4 - 1] = near;
     let mut sink = Sink { count: Some(8), ..Sink::new() };
-    sink.call(EIGHT, ANY, &[0xFF; 16], &mut [0; 8], 4, &mut tallies).unwrap();
+    sink.demap_frame(EIGHT, &[0xFF; 16], &mut [0; 8], 4, &mut tallies).unwrap();
     assert_eq!(tallies, Tallies { port: [full; 8] });
     let eight = 34_359_738_360;
-    assert_eq!(tallies.total(), Total { frames: eight, bad: eight, bytes: eight });
+    assert_eq!(tallies.total(), Total { frames: eight, badcheck: eight, bytes: eight });
     assert_eq!((Tallies::new(), Tallies::new().total()), Default::default());
 }
 
@@ -433,15 +430,20 @@ fn takes_types(sink: &mut Sink, calls: &[(u32, u8, u32, Option<u8>, Seen)]) {
     for (at, (multiframe, psi, handed, accepted, seen)) in (1..).zip(calls) {
         let expected = Expected { multiframe: *multiframe, payload_type: 0x07 };
         let (mut out, mut tallies) = ([0xEE; 8], Tallies::new());
-        let on = EIGHT.with_type_check();
-        let taken = sink.call(on, expected, &at_four(*psi), &mut out, 3, &mut tallies);
+        let on = EIGHT;
+        let taken =
+            sink.demap_frame_expecting(on, expected, &at_four(*psi), &mut out, 3, &mut tallies);
         let answer = Taken { standing: Standing::Read(4), handed: *handed, mended: false };
         assert_eq!(taken, Ok(answer), "call {at}");
         let after = Sink { count: Some(4), word: None, accepted: *accepted, seen: *seen };
         assert_eq!(*sink, after, "call {at}");
         let bytes = [1, 2, 3, 4, 0xEE, 0xEE, 0xEE, 0xEE];
         assert_eq!(out, if *handed == 0 { [0xEE; 8] } else { bytes }, "call {at}");
-        assert_eq!(tallies.of(3), Some(Tally { frames: 1, bad: 0, bytes: *handed }), "call {at}");
+        assert_eq!(
+            tallies.of(3),
+            Some(Tally { frames: 1, badcheck: 0, bytes: *handed }),
+            "call {at}"
+        );
     }
 }
 
@@ -491,8 +493,10 @@ fn numbers_and_types_at_their_ends() {
     );
     let mut sink = Sink { count: Some(4), accepted: Some(0), ..Sink::new() };
     let expected = Expected { multiframe: 1, payload_type: 0x00 };
-    let (on, mut out) = (EIGHT.with_type_check(), [0; 8]);
-    let taken = sink.call(on, expected, &at_four(0), &mut out, 1, &mut Tallies::new()).unwrap();
+    let (on, mut out) = (EIGHT, [0; 8]);
+    let taken = sink
+        .demap_frame_expecting(on, expected, &at_four(0), &mut out, 1, &mut Tallies::new())
+        .unwrap();
     assert_eq!((taken.handed, sink.accepted, sink.seen), (4, Some(0), Never));
 }
 
@@ -511,12 +515,13 @@ fn types_seen_before() {
 /// Each call goes by the type that it is told itself.
 #[test]
 fn another_type_is_expected() {
-    let on = EIGHT.with_type_check();
+    let on = EIGHT;
     let mut sink = Sink { count: Some(4), accepted: Some(7), ..Sink::new() };
     let mut tallies = Tallies::new();
     for (payload_type, handed) in [(7, 4), (5, 0), (7, 4), (0, 0), (255, 0), (7, 4)] {
         let expected = Expected { multiframe: 1, payload_type };
-        let taken = sink.call(on, expected, &at_four(0), &mut [0; 8], 1, &mut tallies);
+        let taken =
+            sink.demap_frame_expecting(on, expected, &at_four(0), &mut [0; 8], 1, &mut tallies);
         assert_eq!((taken.unwrap().handed, sink.accepted), (handed, Some(7)));
     }
 }
@@ -530,27 +535,27 @@ fn types_with_the_check_off() {
     {
         let mut sink = Sink { count: Some(4), word: None, accepted, seen };
         let before = sink.clone();
-        let expected = Expected { multiframe: 0, payload_type: 0x07 };
         for psi in [0x07, 0x05, 0x00] {
-            let taken = sink.call(EIGHT, expected, &at_four(psi), &mut out, 1, &mut tallies);
+            let taken = sink.demap_frame(EIGHT, &at_four(psi), &mut out, 1, &mut tallies);
             assert_eq!((taken.unwrap().handed, &sink), (4, &before));
         }
     }
     let mut sink = Sink { count: Some(4), seen: Seen::Twice(7), ..Sink::new() };
-    sink.call(EIGHT, ANY, &at_four(0x05), &mut out, 1, &mut tallies).unwrap();
+    sink.demap_frame(EIGHT, &at_four(0x05), &mut out, 1, &mut tallies).unwrap();
     takes_types(&mut sink, &[(0, 0x07, 0, Some(7), Seen::Twice(7))]);
 }
 
 /// The PSI byte of a BADCHECK frame is judged, and that of a refused call is not.
 #[test]
 fn types_of_bad_and_refused_frames() {
-    let (on, mut tallies) = (EIGHT.with_type_check(), Tallies::new());
+    let (on, mut tallies) = (EIGHT, Tallies::new());
     let expected = Expected { multiframe: 0, payload_type: 0x07 };
     let mut bad = at_four(0x07);
     bad[1] ^= 0x81;
     let mut sink = Sink { count: Some(4), word: None, accepted: Some(7), seen: Seen::Never };
     let mut call = |port: u32, frame: &[u8]| {
-        let answer = sink.call(on, expected, frame, &mut [0; 8], port, &mut tallies);
+        let answer =
+            sink.demap_frame_expecting(on, expected, frame, &mut [0; 8], port, &mut tallies);
         (answer.map(|taken| (taken.standing, taken.handed)), sink.seen, sink.accepted)
     };
     let (once, twice) = (Seen::Once(7), Seen::Twice(7));
@@ -563,7 +568,7 @@ fn types_of_bad_and_refused_frames() {
     for (seen, accepted) in [(Seen::Once(5), 7), (Seen::Twice(5), 7), (Seen::Twice(5), 5)] {
         assert_eq!(call(1, &bad), (Ok((Standing::BadCheck, 0)), seen, Some(accepted)));
     }
-    assert_eq!(tallies.of(1), Some(Tally { frames: 5, bad: 5, bytes: 4 }));
+    assert_eq!(tallies.of(1), Some(Tally { frames: 5, badcheck: 5, bytes: 4 }));
 }
 
 /// An alarm signal of all ones, or of 66 or 55, stands in for the frames of a port that hands out:
@@ -571,7 +576,7 @@ fn types_of_bad_and_refused_frames() {
 /// come again the count is back, and the bytes come after three of them numbered 0.
 #[test]
 fn types_of_alarm_signals() {
-    let settings = EIGHT.with_type_check();
+    let settings = EIGHT;
     for (signal, on) in [0xFF, 0x66, 0x55]
         .into_iter()
         .flat_map(|of| [(of, settings), (of, settings.with_mending())])
@@ -579,7 +584,14 @@ fn types_of_alarm_signals() {
         let mut sink = Sink { accepted: Some(7), seen: Seen::Twice(7), ..Sink::new() };
         let expected = Expected { multiframe: 0, payload_type: 0x07 };
         let mut call = |frame: &[u8]| {
-            let taken = sink.call(on, expected, frame, &mut [0; 8], 1, &mut Tallies::new());
+            let taken = sink.demap_frame_expecting(
+                on,
+                expected,
+                frame,
+                &mut [0; 8],
+                1,
+                &mut Tallies::new(),
+            );
             let Taken { standing, handed, .. } = taken.unwrap();
             (standing, handed, sink.accepted)
         };
@@ -600,16 +612,17 @@ fn types_of_alarm_signals() {
 /// sink held the count, when a type was accepted, and the first and the last frame that it handed
 /// out.
 fn cord(payload_type: u8, expected: u8) -> ([Option<u32>; 4], Tally) {
-    let on = EIGHT.with_type_check();
+    let on = EIGHT;
     let mut source = Source::new(on, 5, payload_type).unwrap();
     let (mut sink, mut tallies) = (Sink::new(), Tallies::new());
     let (mut frame, mut out) = ([0; 16], [0; 8]);
     let [mut held, mut accepted, mut first, mut last] = [None; 4];
     for n in 1..=800 {
         let (count, multiframe) = (source.count, source.multiframe);
-        source.call(on, 11 - count, &[0xC0; 6][..count as usize], &mut frame).unwrap();
+        source.map_frame(on, 11 - count, &[0xC0; 6][..count as usize], &mut frame).unwrap();
         let expected = Expected { multiframe, payload_type: expected };
-        let taken = sink.call(on, expected, &frame, &mut out, 8, &mut tallies).unwrap();
+        let taken =
+            sink.demap_frame_expecting(on, expected, &frame, &mut out, 8, &mut tallies).unwrap();
         held = held.or(sink.count.map(|_| n));
         accepted = accepted.or(sink.accepted.map(|_| n));
         if taken.handed > 0 {
@@ -627,10 +640,10 @@ fn a_right_and_a_swapped_cord() {
     let bytes = (514..=800).map(|n| if n % 2 == 1 { 5 } else { 6 }).sum();
     let (events, tally) = cord(0x07, 0x07);
     assert_eq!(events, [Some(2), Some(513), Some(514), Some(800)]);
-    assert_eq!(tally, Tally { frames: 800, bad: 0, bytes });
+    assert_eq!(tally, Tally { frames: 800, badcheck: 0, bytes });
     let (events, tally) = cord(0x05, 0x07);
     assert_eq!(events, [Some(2), Some(513), None, None]);
-    assert_eq!(tally, Tally { frames: 800, bad: 0, bytes: 0 });
+    assert_eq!(tally, Tally { frames: 800, badcheck: 0, bytes: 0 });
     assert_eq!(cord(0x00, 0x00).0, [Some(2), Some(513), Some(514), Some(800)]);
     assert_eq!(cord(0x00, 0x07).0, [Some(2), Some(513), None, None]);
 }
@@ -641,20 +654,20 @@ fn frames_of_sinkshow() {
     let first = [0, 0xAA, 0, 0, 0, 0xA6, 0x11, 0, 0, 0x0A, 0, 0x22, 0x07, 0, 0, 0x33];
     let second = [0, 0, 0, 0x44, 0, 0x10, 0, 0x55, 0, 0xD0, 0, 0x66, 0, 0, 0, 0x77];
     let (mut sink, mut tallies, mut out) = (Sink::new(), Tallies::new(), [0; 8]);
-    let mut call = |frame: &[u8]| sink.call(EIGHT, ANY, frame, &mut out, 1, &mut tallies);
+    let mut call = |frame: &[u8]| sink.demap_frame(EIGHT, frame, &mut out, 1, &mut tallies);
     let answer = |standing, handed| Ok(Taken { standing, handed, mended: false });
     assert_eq!(call(&first), answer(Standing::Waiting, 0));
     assert_eq!(call(&second), answer(Standing::Read(4), 0));
     assert_eq!(call(&second), answer(Standing::Read(4), 4));
     assert_eq!(out, [0x44, 0x55, 0x66, 0x77, 0, 0, 0, 0]);
-    assert_eq!(tallies.of(1), Some(Tally { frames: 3, bad: 0, bytes: 4 }));
+    assert_eq!(tallies.of(1), Some(Tally { frames: 3, badcheck: 0, bytes: 4 }));
 
     // A source writes them: the first with the count 3 and the payload type 07, then 4 and 4.
     let (mut source, mut frame) = (Source::new(EIGHT, 3, 0x07).unwrap(), [0xEE; 16]);
-    source.call(EIGHT, 4, &[0x11, 0x22, 0x33], &mut frame).unwrap();
+    source.map_frame(EIGHT, 4, &[0x11, 0x22, 0x33], &mut frame).unwrap();
     assert_eq!(frame, first);
     for _ in 0..2 {
-        source.call(EIGHT, 4, &[0x44, 0x55, 0x66, 0x77], &mut frame).unwrap();
+        source.map_frame(EIGHT, 4, &[0x44, 0x55, 0x66, 0x77], &mut frame).unwrap();
         assert_eq!(frame, second);
     }
 }
@@ -665,7 +678,8 @@ fn names_and_numbers() {
     let first = ["grid", "window", "divisor", "rate", "state"];
     let names = first.into_iter().chain(["count", "client", "frame", "space", "port"]);
     let numbered: Vec<_> = (1..).zip(names).chain([(14, "patterns")]).collect();
-    let all = Refusal::ALL.map(|refusal| (refusal.number(), refusal.name()));
+    let all: Vec<_> =
+        Refusal::ALL.iter().map(|refusal| (refusal.number(), refusal.name())).collect();
     assert_eq!(all[..], numbered);
     let standings = [Standing::Read(1), Standing::Tracked(2), Standing::Paired(3)];
     assert_eq!(standings.map(Standing::name), ["READ", "TRACKED", "PAIRED"]);

@@ -32,7 +32,7 @@ fn any_flag(random: &mut Random, yes: bool) -> u32 {
 
 /// The fields of settings.
 pub fn fields_of(settings: Settings) -> ffi::Settings {
-    settings_of(settings).into()
+    ffi::Settings { type_check: settings.type_check.into(), ..settings_of(settings).into() }
 }
 
 /// The fields of settings with any flags that say the same, and any four numbers where no patterns
@@ -44,7 +44,7 @@ pub fn any_fields(random: &mut Random, settings: Settings) -> ffi::Settings {
         let four = if sound { kept(random) } else { broken(random) };
         [fields.plus1, fields.minus1, fields.plus2, fields.minus2] = four;
     }
-    fields.given = any_flag(random, settings.patterns.is_some());
+    fields.has_patterns = any_flag(random, settings.patterns.is_some());
     fields.mending = any_flag(random, settings.mending);
     fields.type_check = any_flag(random, settings.type_check);
     fields
@@ -194,7 +194,7 @@ fn layouts() {
         offset_of!(Settings, k),
         offset_of!(Settings, lo),
         offset_of!(Settings, hi),
-        offset_of!(Settings, given),
+        offset_of!(Settings, has_patterns),
         offset_of!(Settings, plus1),
         offset_of!(Settings, minus1),
         offset_of!(Settings, plus2),
@@ -258,7 +258,7 @@ fn padding_of_what_is_expected() {
 }
 
 /// What each port's tally is before.
-pub const BEFORE: odu0::Tally = odu0::Tally { frames: 3, bad: 2, bytes: 1 };
+pub const BEFORE: odu0::Tally = odu0::Tally { frames: 3, badcheck: 2, bytes: 1 };
 
 /// The sink's reply as C gives it, with the bytes and the tallies that it leaves.
 pub fn reply(

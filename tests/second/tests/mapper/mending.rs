@@ -380,7 +380,7 @@ fn values_of_mending() {
             let left = odu0::Sink::from(reply.state);
             assert_eq!((left.count, left.word), (word.map(|_| 14408), word), "{mending}");
             let bad = u32::from(mending == 0);
-            assert_eq!(tallies[0], odu0::Tally { frames: 4, bad: 2 + bad, bytes: 14408 });
+            assert_eq!(tallies[0], odu0::Tally { frames: 4, badcheck: 2 + bad, bytes: 14408 });
             assert_eq!(tallies[1..], [BEFORE; 7]);
             // SAFETY: plain values.
             let (source, keeper) = unsafe {
@@ -443,7 +443,7 @@ fn only_the_sink_looks_at_it() {
         let [off, others @ ..] = both.map(|(mending, type_check)| {
             let settings = Settings { mending, type_check, ..settings };
             let same = settings_of(settings);
-            assert_eq!((same.mending, same.type_check), (mending, type_check));
+            assert_eq!(same.mending, mending);
             let new = case.source_new(settings, count, 7);
             let mut source = Source { count, multiframe: 0, payload_type: 7 };
             let mut frame = vec![0xEE; length];

@@ -48,7 +48,7 @@ fn given_patterns_no_false_count() {
 fn written(settings: Settings, old: u32, next: u32, client: &[u8]) -> Vec<u8> {
     let mut frame = vec![0xEE; settings.frame() as usize];
     let mut source = odu0::Source { count: old, multiframe: 0, payload_type: 7 };
-    source.call(settings_of(settings), next, client, &mut frame).unwrap();
+    source.map_frame(settings_of(settings), next, client, &mut frame).unwrap();
     frame
 }
 
@@ -83,14 +83,15 @@ fn every_small_table_from_every_state() {
                     let mut out = [0xEE; 4];
                     let mut call = |old: usize, next: usize| {
                         let frame = &frames[old][next];
-                        sink.call(settings, ANY, frame, &mut out, 1, &mut tallies).unwrap();
+                        sink.demap_frame(settings, frame, &mut out, 1, &mut tallies).unwrap();
                         sink.count
                     };
                     call(old, next);
                     assert_eq!(call(next, last), Some(last as u32), "{said}");
                     out = [0xEE; 4];
                     let frame = &frames[last][old];
-                    let taken = sink.call(settings, ANY, frame, &mut out, 1, &mut tallies).unwrap();
+                    let taken =
+                        sink.demap_frame(settings, frame, &mut out, 1, &mut tallies).unwrap();
                     assert_eq!(
                         (taken.handed, sink.count),
                         (last as u32, Some(old as u32)),
@@ -102,7 +103,7 @@ fn every_small_table_from_every_state() {
             }
         }
     }
-    assert_eq!(tallies.total().bad, 0);
+    assert_eq!(tallies.total().badcheck, 0);
 }
 
 /// The control bytes of each count of OPU0 with each next one, and what a sink that knows the count
@@ -125,7 +126,7 @@ fn every_word_of_opu0() {
                 assert_eq!(control_bytes(settings).map(|at| frame[at]), control, "{said}");
                 let mut sink = odu0::Sink { count: Some(old), ..odu0::Sink::new() };
                 let taken =
-                    sink.call(settings_of(settings), ANY, &frame, &mut out, 1, &mut tallies);
+                    sink.demap_frame(settings_of(settings), &frame, &mut out, 1, &mut tallies);
                 let standing = match next.abs_diff(old) {
                     1 | 2 => odu0::Standing::Tracked(next),
                     _ => odu0::Standing::Read(next),
@@ -372,7 +373,7 @@ fn flags_of_given_patterns() {
         let client = random.bytes(count as usize);
         let length = settings.frame() as usize;
         let plain = fields_of(settings);
-        assert_eq!(plain.given, settings.patterns.is_some().into());
+        assert_eq!(plain.has_patterns, settings.patterns.is_some().into());
         let wanted = replies(plain, count, next, &client, length);
         let fields = any_fields(random, settings);
         assert_eq!(replies(fields, count, next, &client, length), wanted, "{fields:?}");
@@ -403,7 +404,7 @@ fn flags_of_worked_patterns() {
     }
     let mut settings = fields_of(Settings::OPU0.with_patterns([0, 0, 1, 1]));
     for given in [1, 2, 255, 256, 65536, 1 << 31, u32::MAX] {
-        settings.given = given;
+        settings.has_patterns = given;
         let replies = replies(settings, 14407, 14408, &client, 15240);
         assert_eq!(control_bytes(Settings::OPU0).map(|at| replies.4[at]), [0xE1, 0x1E, 0x74]);
         assert_eq!((replies.1.refusal, replies.3.count), (0, 14408));

@@ -190,7 +190,7 @@ fn numbers_in_a_row() {
     let total = |row: &[u32; 24]| {
         // SAFETY: 24 numbers in a row are what odu0_tallies is.
         let total = unsafe { ffi::odu0_card_total(row.as_ptr().cast()) };
-        [total.frames, total.bad, total.bytes]
+        [total.frames, total.badcheck, total.bytes]
     };
     for at in 0..24 {
         let (mut row, mut wanted) = ([0; 24], [0; 3]);

@@ -3,7 +3,7 @@
 //! the accepted type is none or not the expected one, no bytes are handed out, though counts are
 //! followed."
 
-use crate::both::{cases, settings_of, Case, Outcome, TALLY};
+use crate::both::{cases, Case, Outcome, TALLY};
 use crate::fields::{fields_of, reply, BEFORE, NEW};
 use crate::given::*;
 use crate::mending::arriving;
@@ -495,7 +495,7 @@ fn values_of_type_check() {
         let left = ffi::Sink { count: 0, accepted: on, accepted_type: 7 * on as u8, ..state };
         assert_eq!(reply.state, left, "{type_check}");
         let bytes = 1 + reply.handed;
-        assert_eq!(tallies[0], odu0::Tally { frames: 4, bad: 2, bytes });
+        assert_eq!(tallies[0], odu0::Tally { frames: 4, badcheck: 2, bytes });
         assert_eq!(tallies[1..], [BEFORE; 7]);
     }
 }
@@ -581,14 +581,12 @@ fn what_is_told_with_the_check_off() {
     let told = [0, 1, 255, 256, u32::MAX].into_iter().flat_map(|multiframe| {
         [0, 5, 7, 255].map(|payload_type| odu0::Expected { multiframe, payload_type })
     });
-    let state =
-        odu0::Sink { count: Some(5), word: None, accepted: Some(7), seen: odu0::Seen::Twice(5) };
+    let types = ffi::Sink { accepted: 1, accepted_type: 7, seen: 2, seen_type: 5, ..NEW };
+    let state = ffi::Sink { known: 1, count: 5, ..types };
     for told in told {
-        let (mut sink, mut out, mut tallies) = (state.clone(), [0xEE; 8], odu0::Tallies::new());
-        let settings = settings_of(EIGHT);
-        let taken = sink.call(settings, told, &zeros(5), &mut out, 1, &mut tallies).unwrap();
-        assert_eq!((taken.handed, sink.count), (5, Some(0)), "{told:?}");
-        assert_eq!((sink.accepted, sink.seen), (state.accepted, state.seen), "{told:?}");
+        let (taken, ..) = reply(fields_of(EIGHT), state, told, &zeros(5), 8, 1);
+        assert_eq!(taken.handed, 5, "{told:?}");
+        assert_eq!(taken.state, ffi::Sink { known: 1, count: 0, ..types }, "{told:?}");
     }
 }
 

@@ -2,7 +2,7 @@
 //! equations that G.709 gives for it in Table IX.1 and the division of the second implementation;
 //! and every word mended (02, P1).
 
-use crate::both::{settings_of, ANY};
+use crate::both::settings_of;
 use crate::given::{control_bytes, put_control, WIDE};
 use odu0::{Sink, Source, Standing, Taken, Tallies};
 use second::mapper::{check, Settings};
@@ -36,13 +36,13 @@ fn every_word_that_is_read() {
             put_control(settings, &mut frame, [jc1, jc2, jc3]);
             let (port, settings) = (1 + u32::from(jc3) % 8, settings_of(settings));
             let taken =
-                Sink::new().call(settings, ANY, &frame, &mut out, port, &mut tallies).unwrap();
+                Sink::new().demap_frame(settings, &frame, &mut out, port, &mut tallies).unwrap();
             let bad = taken.standing == Standing::BadCheck;
             assert_eq!((bad, taken.mended), (jc3 != right, false), "{word:04X} {jc3:02X}");
         }
     }
     let total = tallies.total();
-    assert_eq!((total.frames, total.bad), (1 << 24, 255 << 16));
+    assert_eq!((total.frames, total.badcheck), (1 << 24, 255 << 16));
 }
 
 /// With mending on a new sink reads every 24 bits as the one word near them, if there is one. Near
@@ -65,7 +65,7 @@ fn every_word_that_is_mended() {
         put_control(WIDE, &mut frame, [jc1, jc2, jc3]);
         let mut sink = Sink::new();
         let port = 1 + u32::from(jc3) % 8;
-        let taken = sink.call(settings, ANY, &frame, &mut out, port, &mut tallies).unwrap();
+        let taken = sink.demap_frame(settings, &frame, &mut out, port, &mut tallies).unwrap();
         let (word, mended) = near.map_or((None, false), |(word, mended)| (Some(word), mended));
         let count = word.map(|word| u32::from(word >> 2));
         let (standing, remembered) = match (word.map(|word| word & 3), count) {
@@ -79,7 +79,7 @@ fn every_word_that_is_mended() {
     }
     // A word has itself and 24 others near it.
     let total = tallies.total();
-    assert_eq!((total.frames, total.bad), (1 << 24, (256 - 25) << 16));
+    assert_eq!((total.frames, total.badcheck), (1 << 24, (256 - 25) << 16));
 }
 
 /// A source writes JC3 by the equations, for each count of the largest grid with each change that
@@ -93,7 +93,7 @@ fn every_word_that_is_written() {
         let near = (old.saturating_sub(2)..=old + 2).filter(|next| WIDE.holds(*next));
         for next in near.chain([WIDE.hi - old]) {
             let mut source = Source { count: old, multiframe: 0, payload_type: 7 };
-            source.call(settings, next, &client[..old as usize], &mut frame).unwrap();
+            source.map_frame(settings, next, &client[..old as usize], &mut frame).unwrap();
             let [jc1, jc2, jc3] = control_bytes(WIDE).map(|at| frame[at]);
             assert_eq!(jc3, equated(u16::from_be_bytes([jc1, jc2])), "{old} to {next}");
         }

@@ -8,28 +8,17 @@
 #include <stdio.h>
 #include <string.h>
 
-/*
- * The rate of 1000BASE-X is P / Q client bytes a frame. The sink is on port PORT of the card and
- * reads from frame FROM, and frame HARMED is harmed.
- */
-enum { P = 18671875, Q = 1296, FRAMES = 12, FROM = 4, HARMED = 8, PORT = 1 };
+/* The sink is on port PORT of the card and reads from frame FROM, and frame HARMED is harmed. */
+enum { FRAMES = 12, FROM = 4, HARMED = 8, PORT = 1 };
 
 /* The largest buffers that OPU0 needs. */
 static uint8_t client[14410], frame[15240], out[14410];
 
-/* A standing's name. */
-static const char *name(uint32_t standing)
-{
-    static const char *const names[] = {"refused",  "READ",    "TRACKED", "PAIRED",
-                                        "BADCHECK", "WAITING", "OUTSIDE"};
-    return names[standing];
-}
-
 int main(void)
 {
     const odu0_settings opu0 = ODU0_OPU0;
-    /* The type check is off: any type may be expected. */
-    const odu0_expected any = {0, 0};
+    /* The rate of 1000BASE-X, in client bytes a frame. */
+    const odu0_rate gigabit = {18671875, 1296};
     odu0_tallies tallies = {{{0, 0, 0}}};
     odu0_sink sink = odu0_sink_new();
     odu0_sink_reply taken;
@@ -37,9 +26,9 @@ int main(void)
     int n;
 
     /* The keeper's first count is the source's first; 07 is the payload type. */
-    odu0_keeper_reply rate = odu0_keeper_call(opu0, P, Q, odu0_keeper_new(Q));
-    odu0_source_reply source = odu0_source_new(opu0, rate.count, 0x07);
-    if (rate.refusal != ODU0_ACCEPTED || source.refusal != ODU0_ACCEPTED)
+    odu0_keeper_reply next = odu0_keeper_call(opu0, odu0_keeper_new(gigabit));
+    odu0_source_reply source = odu0_source_new(opu0, next.count, 0x07);
+    if (next.refusal != ODU0_ACCEPTED || source.refusal != ODU0_ACCEPTED)
         return 1;
 
     for (n = 1; n <= FRAMES; n++) {
@@ -52,10 +41,10 @@ int main(void)
             client[i] = (uint8_t)(i % 251 + (uint32_t)n);
 
         /* The frame carries "count" of them and announces the count of the next. */
-        rate = odu0_keeper_call(opu0, P, Q, rate.remainder);
-        source = odu0_source_call(opu0, source.state, rate.count, client, count, frame,
+        next = odu0_keeper_call(opu0, next.state);
+        source = odu0_source_call(opu0, source.state, next.count, client, count, frame,
                                   sizeof frame);
-        if (rate.refusal != ODU0_ACCEPTED || source.refusal != ODU0_ACCEPTED)
+        if (next.refusal != ODU0_ACCEPTED || source.refusal != ODU0_ACCEPTED)
             return 1;
 
         /* On the way, two bits of JC1 and one of JC2 are turned over in one frame. */
@@ -67,25 +56,24 @@ int main(void)
         /* The state that a call returns goes into the next call. */
         if (n < FROM)
             continue;
-        taken = odu0_sink_call(opu0, sink, any, frame, sizeof frame, out, sizeof out, PORT,
-                               &tallies);
+        taken = odu0_sink_call(opu0, sink, frame, sizeof frame, out, sizeof out, PORT, &tallies);
         sink = taken.state;
         if (taken.refusal != ODU0_ACCEPTED)
             return 1;
         if (taken.found)
             sprintf(found, "%lu", (unsigned long)taken.count);
         equal = taken.handed == count && memcmp(out, client, count) == 0;
-        printf("frame %d: %s, count %s, handed %lu, equal %s\n", n, name(taken.standing), found,
-               (unsigned long)taken.handed, equal ? "yes" : "no");
+        printf("frame %d: %s, count %s, handed %lu, equal %s\n", n,
+               odu0_standing_name(taken.standing), found, (unsigned long)taken.handed,
+               equal ? "yes" : "no");
     }
     tally = tallies.port[PORT - 1];
-    printf("tally: frames %lu, bad %lu, bytes %lu\n", (unsigned long)tally.frames,
-           (unsigned long)tally.bad, (unsigned long)tally.bytes);
+    printf("tally: frames %lu, badcheck %lu, bytes %lu\n", (unsigned long)tally.frames,
+           (unsigned long)tally.badcheck, (unsigned long)tally.bytes);
 
     /* A frame that is one byte short is turned back, and changes nothing. */
-    taken = odu0_sink_call(opu0, sink, any, frame, sizeof frame - 1, out, sizeof out, PORT,
-                           &tallies);
-    printf("a frame of %lu bytes: refusal %lu\n", (unsigned long)(sizeof frame - 1),
-           (unsigned long)taken.refusal);
+    taken = odu0_sink_call(opu0, sink, frame, sizeof frame - 1, out, sizeof out, PORT, &tallies);
+    printf("a frame of %lu bytes: refusal %lu (%s)\n", (unsigned long)(sizeof frame - 1),
+           (unsigned long)taken.refusal, odu0_refusal_name(taken.refusal));
     return 0;
 }

@@ -24,20 +24,10 @@ static const uint8_t wrong[FRAMES][3] = {
 /* The largest buffers that OPU0 needs. */
 static uint8_t client[14410], frame[15240], out[14410];
 
-/* A standing's name. */
-static const char *name(uint32_t standing)
-{
-    static const char *const names[] = {"refused",  "READ",    "TRACKED", "PAIRED",
-                                        "BADCHECK", "WAITING", "OUTSIDE"};
-    return names[standing];
-}
-
-/* The whole job with these settings of the sink: 1, or 0 where a call is refused. */
+/* The whole job with these settings of the sink: 1, or 0 if a call is refused. */
 static int job(odu0_settings settings)
 {
     const odu0_settings opu0 = ODU0_OPU0;
-    /* The type check is off: any type may be expected. */
-    const odu0_expected any = {0, 0};
     odu0_tallies tallies = {{{0, 0, 0}}};
     odu0_tally tally;
     odu0_sink sink = odu0_sink_new();
@@ -68,7 +58,7 @@ static int job(odu0_settings settings)
         for (row = 0; row < 3; row++)
             frame[row * 3810 + 1] ^= wrong[n - 1][row];
 
-        taken = odu0_sink_call(settings, sink, any, frame, sizeof frame, out, sizeof out, PORT,
+        taken = odu0_sink_call(settings, sink, frame, sizeof frame, out, sizeof out, PORT,
                                &tallies);
         sink = taken.state;
         if (taken.refusal != ODU0_ACCEPTED)
@@ -77,13 +67,13 @@ static int job(odu0_settings settings)
             sprintf(found, "%lu", (unsigned long)taken.count);
         equal = taken.handed == count && memcmp(out, client, count) == 0;
         whole += equal;
-        printf("frame %d: %s, count %s, mended %s, handed %lu, equal %s\n", n, name(taken.standing),
-               found, taken.mended ? "yes" : "no", (unsigned long)taken.handed,
-               equal ? "yes" : "no");
+        printf("frame %d: %s, count %s, mended %s, handed %lu, equal %s\n", n,
+               odu0_standing_name(taken.standing), found, taken.mended ? "yes" : "no",
+               (unsigned long)taken.handed, equal ? "yes" : "no");
     }
     tally = tallies.port[PORT - 1];
-    printf("tally: frames %lu, bad %lu, bytes %lu\n", (unsigned long)tally.frames,
-           (unsigned long)tally.bad, (unsigned long)tally.bytes);
+    printf("tally: frames %lu, badcheck %lu, bytes %lu\n", (unsigned long)tally.frames,
+           (unsigned long)tally.badcheck, (unsigned long)tally.bytes);
     printf("loads that arrived whole: %d of %d\n", whole, FRAMES);
     return 1;
 }

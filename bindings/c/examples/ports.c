@@ -16,8 +16,6 @@ static uint8_t client[COUNT], frame[15240], out[14410];
 int main(void)
 {
     const odu0_settings opu0 = ODU0_OPU0;
-    /* The type check is off: any type may be expected. */
-    const odu0_expected any = {0, 0};
     odu0_tallies tallies = {{{0, 0, 0}}};
     odu0_source_reply source[ODU0_PORTS];
     odu0_sink sink[ODU0_PORTS];
@@ -43,8 +41,8 @@ int main(void)
                 frame[1] ^= 0x11;
 
             /* Each call names its port, and is lent the tallies of the whole card. */
-            taken = odu0_sink_call(opu0, sink[port - 1], any, frame, sizeof frame, out, sizeof out,
-                                   port, &tallies);
+            taken = odu0_sink_call(opu0, sink[port - 1], frame, sizeof frame, out, sizeof out, port,
+                                   &tallies);
             sink[port - 1] = taken.state;
             if (taken.refusal != ODU0_ACCEPTED)
                 return 1;
@@ -55,19 +53,20 @@ int main(void)
     for (port = 1; port <= ODU0_PORTS; port++) {
         odu0_tally tally = tallies.port[port - 1];
         printf("%4lu %9lu %9lu %11lu\n", (unsigned long)port, (unsigned long)tally.frames,
-               (unsigned long)tally.bad, (unsigned long)tally.bytes);
+               (unsigned long)tally.badcheck, (unsigned long)tally.bytes);
     }
 
     /* Here the sum of the bytes has more than 32 bits. */
     total = odu0_card_total(&tallies);
     printf("card %9llu %9llu %11llu\n", (unsigned long long)total.frames,
-           (unsigned long long)total.bad, (unsigned long long)total.bytes);
+           (unsigned long long)total.badcheck, (unsigned long long)total.bytes);
     for (port = 1; port <= ODU0_PORTS; port++)
-        if (tallies.port[port - 1].bad > 0)
+        if (tallies.port[port - 1].badcheck > 0)
             printf("the BADCHECK frames are on port %lu\n", (unsigned long)port);
 
     /* There is no port 9: the call is turned back, and changes nothing. */
-    taken = odu0_sink_call(opu0, sink[0], any, frame, sizeof frame, out, sizeof out, 9, &tallies);
-    printf("port 9: refusal %lu\n", (unsigned long)taken.refusal);
+    taken = odu0_sink_call(opu0, sink[0], frame, sizeof frame, out, sizeof out, 9, &tallies);
+    printf("port 9: refusal %lu (%s)\n", (unsigned long)taken.refusal,
+           odu0_refusal_name(taken.refusal));
     return 0;
 }

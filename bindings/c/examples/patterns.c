@@ -21,14 +21,6 @@ enum { FRAMES = sizeof counts / sizeof counts[0] - 1, FROM = 2, PORT = 1, OTHER 
 /* The largest buffers that OPU0 needs. */
 static uint8_t client[14410], frame[15240], out[14410];
 
-/* A standing's name. */
-static const char *name(uint32_t standing)
-{
-    static const char *const names[] = {"refused",  "READ",    "TRACKED", "PAIRED",
-                                        "BADCHECK", "WAITING", "OUTSIDE"};
-    return names[standing];
-}
-
 int main(void)
 {
     /*
@@ -39,8 +31,6 @@ int main(void)
     const odu0_settings customer = ODU0_SETTINGS_WITH_PATTERNS(3808, 14405, 14410, 0x3C3C, 0x03C3,
                                                                0x1555, 0x2AAA);
     const odu0_settings opu0 = ODU0_OPU0;
-    /* The type check is off: any type may be expected. */
-    const odu0_expected any = {0, 0};
     odu0_settings broken = customer;
     odu0_tallies tallies = {{{0, 0, 0}}};
     odu0_sink sink = odu0_sink_new(), other = odu0_sink_new();
@@ -72,14 +62,14 @@ int main(void)
 
         /* Another sink reads the first two of these frames with the standard's patterns. */
         if (n < FROM + 2) {
-            taken = odu0_sink_call(opu0, other, any, frame, sizeof frame, out, sizeof out, OTHER,
+            taken = odu0_sink_call(opu0, other, frame, sizeof frame, out, sizeof out, OTHER,
                                    &tallies);
             other = taken.state;
             said[n - FROM] = taken.standing;
         }
 
         /* With the customer's patterns the count is there after two frames. */
-        taken = odu0_sink_call(customer, sink, any, frame, sizeof frame, out, sizeof out, PORT,
+        taken = odu0_sink_call(customer, sink, frame, sizeof frame, out, sizeof out, PORT,
                                &tallies);
         sink = taken.state;
         if (taken.refusal != ODU0_ACCEPTED)
@@ -87,23 +77,24 @@ int main(void)
         if (taken.found)
             sprintf(found, "%lu", (unsigned long)taken.count);
         equal = taken.handed == count && memcmp(out, client, count) == 0;
-        printf("frame %d: %s, count %s, handed %lu, equal %s\n", n, name(taken.standing), found,
-               (unsigned long)taken.handed, equal ? "yes" : "no");
+        printf("frame %d: %s, count %s, handed %lu, equal %s\n", n,
+               odu0_standing_name(taken.standing), found, (unsigned long)taken.handed,
+               equal ? "yes" : "no");
     }
 
     /* The standard's patterns do not lead to a count: the sink goes on waiting. */
-    printf("with the standard's patterns: frame %d %s, frame %d %s\n", FROM, name(said[0]),
-           FROM + 1, name(said[1]));
+    printf("with the standard's patterns: frame %d %s, frame %d %s\n", FROM,
+           odu0_standing_name(said[0]), FROM + 1, odu0_standing_name(said[1]));
 
     /* With one bit of -2 turned over, the two for minus differ elsewhere than the two for plus. */
     broken.minus2 ^= 1;
-    taken = odu0_sink_call(broken, sink, any, frame, sizeof frame, out, sizeof out, PORT, &tallies);
-    printf("one bit of -2 turned over: refusal %lu\n", (unsigned long)taken.refusal);
+    taken = odu0_sink_call(broken, sink, frame, sizeof frame, out, sizeof out, PORT, &tallies);
+    printf("one bit of -2 turned over: refusal %lu (%s)\n", (unsigned long)taken.refusal,
+           odu0_refusal_name(taken.refusal));
 
     /* The lowest number that applies is the answer: a short output buffer comes first. */
-    taken = odu0_sink_call(broken, sink, any, frame, sizeof frame, out, sizeof out - 1, PORT,
-                           &tallies);
-    printf("and an output buffer of %lu bytes: refusal %lu\n", (unsigned long)(sizeof out - 1),
-           (unsigned long)taken.refusal);
+    taken = odu0_sink_call(broken, sink, frame, sizeof frame, out, sizeof out - 1, PORT, &tallies);
+    printf("and an output buffer of %lu bytes: refusal %lu (%s)\n", (unsigned long)(sizeof out - 1),
+           (unsigned long)taken.refusal, odu0_refusal_name(taken.refusal));
     return 0;
 }

@@ -29,14 +29,13 @@ struct port {
 
 int main(void)
 {
-    odu0_settings settings = ODU0_SETTINGS(2, 0, 8);
+    const odu0_settings settings = ODU0_SETTINGS(2, 0, 8);
     odu0_tallies tallies = {{{0, 0, 0}}};
     odu0_source_reply source[CLIENTS];
     struct port ports[PORTS];
     uint32_t port, i;
     int n, from;
 
-    settings.type_check = 1;
     for (from = RIGHT; from < CLIENTS; from++)
         source[from] = odu0_source_new(settings, LOW, types[from]);
     for (port = 1; port <= PORTS; port++) {
@@ -72,8 +71,8 @@ int main(void)
             if (at->from != from)
                 printf("%5d  %4lu  gets the other client's frames\n", n, (unsigned long)port);
             at->from = from;
-            taken = odu0_sink_call(settings, before, expected, frame[from], sizeof frame[from], out,
-                                   sizeof out, port, &tallies);
+            taken = odu0_sink_call_expecting(settings, before, expected, frame[from],
+                                             sizeof frame[from], out, sizeof out, port, &tallies);
             at->sink = taken.state;
             if (taken.refusal != ODU0_ACCEPTED)
                 return 1;
@@ -99,7 +98,7 @@ int main(void)
     for (port = 1; port <= PORTS; port++) {
         odu0_tally tally = tallies.port[port - 1];
         printf("%4lu %9lu %9lu %11lu %20lu\n", (unsigned long)port, (unsigned long)tally.frames,
-               (unsigned long)tally.bad, (unsigned long)tally.bytes, ports[port - 1].others);
+               (unsigned long)tally.badcheck, (unsigned long)tally.bytes, ports[port - 1].others);
     }
     for (port = 1; port <= PORTS; port++) {
         struct port *at = &ports[port - 1];
