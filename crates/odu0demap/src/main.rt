@@ -106,7 +106,7 @@ fn read_type(mending: bool, i: usize) -> Asked
 
 // Argument i as the type that is expected.
 fn read_number(mending: bool, i: usize) -> Asked {
-    let number = program_stream::argument(i);
+    let number = program_say::argument(i);
     let Number::Value(n) = number else {
         return Asked::Wrong;
     };
@@ -349,13 +349,13 @@ fn show_type(frame_number: u64, before: AcceptedType, after: AcceptedType) {
     let AcceptedType::PayloadType(accepted) = after else {
         return;
     };
-    program_stream::say(b"frame ", frame_number);
-    program_stream::say_line(b": accepted type ", accepted as u64);
+    program_say::say(b"frame ", frame_number);
+    program_say::say_line(b": accepted type ", accepted as u64);
 }
 
 // Says the tally: frames taken, BADCHECK frames and bytes handed out.
 fn show_tally(tally: Tally) {
-    program_stream::say(b"odu0demap: frames ", tally.frames as u64);
-    program_stream::say(b", BADCHECK ", tally.badcheck as u64);
-    program_stream::say_line(b", bytes ", tally.bytes as u64);
+    program_say::say(b"odu0demap: frames ", tally.frames as u64);
+    program_say::say(b", BADCHECK ", tally.badcheck as u64);
+    program_say::say_line(b", bytes ", tally.bytes as u64);
 }

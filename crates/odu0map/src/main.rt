@@ -78,11 +78,11 @@ fn asked_rate() -> Asked {
     if os::arg_count() != 3 {
         return Asked::Wrong;
     }
-    let first = program_stream::argument(1);
+    let first = program_say::argument(1);
     let Number::Value(p) = first else {
         return Asked::Wrong;
     };
-    let second = program_stream::argument(2);
+    let second = program_say::argument(2);
     let Number::Value(q) = second else {
         return Asked::Wrong;
     };
@@ -217,15 +217,15 @@ fn map_loads(rate: Rate, first: Mapper, client: &[u8], frames: &mut [u8]) -> Bat
 fn show_totals(totals: Totals) {
     let end = totals.end;
     program_stream::say_left(b"odu0map: ", end);
-    program_stream::say(b"odu0map: frames ", totals.frames);
-    program_stream::say_line(b", bytes ", totals.bytes);
+    program_say::say(b"odu0map: frames ", totals.frames);
+    program_say::say_line(b", bytes ", totals.bytes);
 }
 
 // Says why there is no mapper, by the name and the number of the refusal.
 fn show_refusal(refusal: Refusal) {
     io::write_all(STDERR_FILENO, b"odu0map: refused, ");
     show_name(refusal);
-    program_stream::say(
+    program_say::say(
         b" (number ",
         gmp_refusal::refusal_number(Verdict::Refused(refusal)) as u64,
     );

@@ -5,6 +5,7 @@ use mathlib.Core.Path.{_≡_}
 use mathlib.Core.List.{List, [], _++_}
 use Prim.Native.Nat.{ℕ, _-_, _≤_, _<_}
 use lib.ListN.{length, take, drop}
+use Rattle.program_keep.specs.Keep.{between}
 use Rattle.program_stream.specs.declared.Why.{Why}
 use Rattle.program_stream.specs.declared.Why.the-variants.{Ended, Unread, Unwritten}
 use Rattle.program_stream.specs.declared.Stop.{Stop}
@@ -16,17 +17,8 @@ use Rattle.program_stream.specs.declared.Held.{Held}
 use Rattle.program_stream.specs.declared.Supplied.{Supplied}
 use Rattle.program_stream.specs.declared.Supplied.the-variants.{Enough, Stopped}
 
--- what a block has from place `at` up to place `end`
-abbrev pub between : ℕ → ℕ → List ℕ → List ℕ
-between at end block = take (end - at) (drop at block)
-
 abbrev pub heldBytes : Held → List ℕ → List ℕ
 heldBytes h block = between (h .at) (h .end) block
-
--- A part of a block goes to its front, and the places behind it are as they were.
-pub record Keeps (block : List ℕ) (at end n : ℕ) (after : List ℕ) : Type 0 where
-  pub number : n ≡ length (between at end block)
-  pub bytes : after ≡ between at end block ++ drop n block
 
 -- The bytes held lie within the block, and are enough.
 pub record Has (least : ℕ) (h : Held) (block : List ℕ) : Type 0 where

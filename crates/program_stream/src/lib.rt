@@ -1,16 +1,15 @@
 // What the programs share: bytes from standard input, whole blocks or as many as there are, bytes
-// to standard output, why a program stops, numbers from arguments, and messages on standard error.
+// to standard output, and why a program stops.
 use libc::STDERR_FILENO;
 use libc::STDIN_FILENO;
 use libc::STDOUT_FILENO;
-use program_decimal::Number;
 ghost use mathlib.Core.Path.{_≡_};
 ghost use mathlib.Core.Bool.{true, false};
 ghost use Prim.Native.Nat.{_+_, _≤_, _<_};
 ghost use lib.IntN.{pos};
 ghost use lib.Signed.{_<ℤ_};
 ghost use lib.ListN.{length};
-ghost use Rattle.program_stream.specs.Gather.{Gathers, Keeps, Fills, Supplies, Writes, leftOf};
+ghost use Rattle.program_stream.specs.Gather.{Gathers, Fills, Supplies, Writes, leftOf};
 
 // Why a program stops: the input ended and so many bytes of it are left, fewer than were asked for,
 // a read failed, or a write did.
@@ -80,25 +79,8 @@ pub fn supply(block: &mut [u8], held: Held, least: usize, name: &[u8]) -> Suppli
             }
         }
     }
-    let kept = keep(block, at, end);
+    let kept = program_keep::keep(block, at, end);
     read_behind(block, kept, least, name)
-}
-
-// Moves what a block has from place `at` up to place `end` to its front, and gives the number.
-fn keep(block: &mut [u8], at: usize, end: usize) -> usize
-    ensures { λ r. ⌜ Keeps (now (block .entry)) at end r (now (block .exit)) ⌝ }
-{
-    let mut kept = 0;
-    let mut from = at;
-    while from < end {
-        if block.len() <= from {
-            return kept;
-        }
-        block[kept] = block[from];
-        kept += 1;
-        from += 1;
-    }
-    kept
 }
 
 // Reads behind the first `have` bytes of a block until there are `least` of them, the block is full
@@ -205,28 +187,6 @@ pub fn say_left(name: &[u8], end: End) {
 fn say_rest(name: &[u8], end: End, number: usize)
     requires { ⌜ number ≡ leftOf end ⌝ }
 {
-    say(name, number as u64);
+    program_say::say(name, number as u64);
     io::write_all(STDERR_FILENO, b" bytes left at the end\n");
-}
-
-// The number that an argument spells in decimal, in at most 64 bytes.
-pub fn argument(i: usize) -> Number {
-    let mut text = [0u8; 64];
-    let n = os::arg(i, &mut text);
-    if os::errno() != 0 {
-        return Number::Wrong;
-    }
-    program_decimal::parse(&text[..n])
-}
-
-// Writes a text and a number behind it to standard error.
-pub fn say(text: &[u8], n: u64) {
-    io::write_all(STDERR_FILENO, text);
-    io::print_decimal(STDERR_FILENO, n);
-}
-
-// The same, and ends the line.
-pub fn say_line(text: &[u8], n: u64) {
-    say(text, n);
-    io::write_all(STDERR_FILENO, b"\n");
 }

@@ -1,12 +1,12 @@
--- `program_stream::keep` meets its contract. The bytes move one by one, each before its place is
+-- `program_keep::keep` meets its contract. The bytes move one by one, each before its place is
 -- written over. Assumes nothing.
 use mathlib.Core.Logic.{inl, inr}
 use Prim.Native.Nat.{_-_}
 use native.Mathlib.Omega.{arith}
 use borrow.Author.Needs.{needs}
-use Rattle.program_stream.proofs.Laws.{Keeping, keeping-start, keeping-next, keeps}
-use Rattle.program_stream.proofs.keep.Statement.{statement}
-use Rattle.program_stream.proofs.keep.Tie as tie
+use Rattle.program_keep.proofs.Laws.{Keeping, keeping-start, keeping-next, keeps}
+use Rattle.program_keep.proofs.keep.Statement.{statement}
+use Rattle.program_keep.proofs.keep.Tie as tie
 
 abbrev Inv-loop : tie.InvT-loop
 Inv-loop block₀ at end kept₀ from₀ block kept from = Keeping block₀ at end block kept from
