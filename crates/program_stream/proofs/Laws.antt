@@ -57,6 +57,7 @@ module _ (start : List ℕ) (have : ℕ) (block : List ℕ) (end : ℕ) (r : Rea
         order = omega arith;
         within = r .within;
         enough = λ room. ⊎-elim (λ e. omega (arith, e)) (λ e. omega (arith, e, room)) h;
+        whole = λ none. ⊎-elim (λ e. absurd (omega (arith, e, none, r .within))) (λ e. omega (arith, e, r .within)) h;
         first = ap (λ (i : ℕ). take (length (take have start)) (take i block)) (sub-zero end) ∙ first-read;
       }
 
@@ -92,7 +93,13 @@ gave-none (negsuc k) most n (negsuc b) h l e z room = absurd (false≢true l)
 pub held-on : (block : List ℕ) (h : Held) (least : ℕ) → h .at ≤ h .end → h .end ≤ length block → least ≤ h .end - h .at
     → Holds (heldBytes h block) least h block
 held-on block h least order within enough =
-    record { order = order; within = within; enough = λ room. enough; first = take-length (heldBytes h block) }
+    record {
+      order = order;
+      within = within;
+      enough = λ room. enough;
+      whole = λ none. absurd (omega (arith, enough, within, none));
+      first = take-length (heldBytes h block);
+    }
 
 -- what is held is enough where the block has room for it
 pub has-enough : (old : List ℕ) (least : ℕ) (h : Held) (after : List ℕ) → Holds old least h after → least ≤ length after → Has least h after

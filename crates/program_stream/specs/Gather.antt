@@ -26,12 +26,13 @@ pub record Has (least : ℕ) (h : Held) (block : List ℕ) : Type 0 where
   pub within : h .end ≤ length block
   pub enough : least ≤ h .end - h .at
 
--- They lie within it, are enough where it has room for so many, and begin with those that were
--- there before.
+-- They lie within it, and begin with those that were there before. They are enough, or the whole
+-- block if it has no room for so many.
 pub record Holds (old : List ℕ) (least : ℕ) (h : Held) (after : List ℕ) : Type 0 where
   pub order : h .at ≤ h .end
   pub within : h .end ≤ length after
   pub enough : least ≤ length after → least ≤ h .end - h .at
+  pub whole : length after < least → h .end - h .at ≡ length after
   pub first : take (length old) (heldBytes h after) ≡ old
 
 -- The bytes left where the input ended: as many as stand at the block's front, fewer than were
