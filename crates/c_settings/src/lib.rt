@@ -1,5 +1,7 @@
 // The settings for C and Rust: numbers in, and that all settings can be said so. All meaning is in
 // the crates below; here values are only converted.
+#![tactic(auto)]
+
 ghost use Rattle.std.specs.Prelude.{◌≡◌};
 ghost use Rattle.c_settings.specs.Numbers.{patterns_from, settings_from};
 ghost use Rattle.c_settings.specs.Lossless.{Lossless};
@@ -9,7 +11,7 @@ use gmp_settings::{FourPatterns, Settings};
 // The grid and the window; a flag, 0 for the standard's patterns, beside four patterns for the
 // changes +1, -1, +2, -2; a flag, 0 for no mending; and one, 0 for no type check.
 #[repr(C)]
-#[derive(Drop)]
+#[derive(Clone, Copy)]
 pub struct SettingsNumbers {
     pub k: u32,
     pub lo: u32,

@@ -1,12 +1,14 @@
 // The sink's state, its reply and the tallies as the plain numbers that C and Rust see, and that
 // what crosses can be read back. The calls are in the crate c_sink.
+#![tactic(auto)]
+
 ghost use Rattle.c_sink_numbers.specs.Lossless.{Lossless};
 
 // A sink's state: a flag, 0 for none, beside the count, beside the remembered word and beside the
 // accepted payload type; and how often the type that was seen last was seen: 0, 1, or any other
 // number for twice or more.
 #[repr(C)]
-#[derive(Drop)]
+#[derive(Clone, Copy)]
 pub struct SinkNumbers {
     pub known: u32,
     pub count: u32,
@@ -21,7 +23,7 @@ pub struct SinkNumbers {
 // The refusal's number or 0, the standing's number or 0, what it found, the bytes handed out, a
 // flag, 1 where a wrong control bit was mended, and the sink's state.
 #[repr(C)]
-#[derive(Drop)]
+#[derive(Clone, Copy)]
 pub struct SinkReply {
     pub refusal: u32,
     pub standing: u32,

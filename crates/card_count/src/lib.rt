@@ -1,5 +1,7 @@
 // The sink's call with the card's tallies by value. That which is lent them is in the crate
 // card_sink.
+#![tactic(auto)]
+
 ghost use Rattle.std.specs.Prelude.{◌≡◌};
 ghost use Rattle.gmp_standing.specs.Standing.{standing_meaning};
 ghost use Rattle.gmp_sink.specs.Sink.{answer_meaning};
@@ -12,7 +14,7 @@ use gmp_sink::{SinkAnswer, SinkResult, SinkState};
 use gmp_standing::Standing;
 
 // What a call returns, with the tallies after it.
-#[derive(Drop)]
+#[derive(Clone, Copy)]
 pub struct Counted {
     pub result: SinkResult,
     pub tallies: Tallies,

@@ -1,5 +1,7 @@
 // The sink's call with the tallies of the card's ports, lent to it where the caller keeps them, and
 // for a caller that keeps them by value.
+#![tactic(auto)]
+
 ghost use Rattle.card_promise.specs.Card.{CardPromise};
 
 use card_count::Counted;

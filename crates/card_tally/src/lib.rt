@@ -1,6 +1,8 @@
 // The card's tallies, one for each port: frames taken, BADCHECK frames and bytes handed out, each
 // staying at its largest number; the card's total; and that a frame changes its own port's tally
 // only.
+#![tactic(auto)]
+
 ghost use Rattle.std.specs.Prelude.{◌≡◌, false, ◌+◌, ◌-◌, ◌<◌};
 ghost use Rattle.ports.specs.Port.{bad_port};
 ghost use Rattle.card_tally.specs.Tally.{cut, added};
@@ -8,7 +10,7 @@ ghost use Rattle.card_tally.specs.Ports.{new_tallies, tally_of, counted, total_o
 
 // The tally of a port.
 #[repr(C)]
-#[derive(Drop)]
+#[derive(Clone, Copy)]
 pub struct Tally {
     pub frames: u32,
     pub badcheck: u32,
@@ -16,14 +18,14 @@ pub struct Tally {
 }
 
 // The tallies of the card's eight ports, in the order of their numbers.
-#[derive(Drop)]
+#[derive(Clone, Copy)]
 pub struct Tallies {
     pub ports: [Tally; 8],
 }
 
 // The card's total: the sum of the eight, for each of the three numbers.
 #[repr(C)]
-#[derive(Drop)]
+#[derive(Clone, Copy)]
 pub struct Total {
     pub frames: u64,
     pub badcheck: u64,

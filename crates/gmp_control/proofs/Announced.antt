@@ -1,7 +1,7 @@
 -- What a source's word says, for every table that keeps the rule. Assumes nothing.
-use mathlib.Core.Path.{◌≡◌, refl, sym, ◌∙◌, subst⁻¹}
+use mathlib.Core.Path.{◌≡◌, refl, ◌∙◌, subst⁻¹}
 use mathlib.Core.Logic.{◌⊎◌, inl, inr}
-use mathlib.Core.Bool.{Bool, true, false}
+use mathlib.Core.Bool.{true, false}
 use Prim.Native.Nat.{ℕ, ◌+◌, ◌*◌, ◌/◌, ◌%◌, ◌<◌}
 use native.Mathlib.Omega.{arith}
 use lib.Dec.{eqb, lit<}
@@ -9,7 +9,7 @@ use lib.Bits.{xor_lt}
 use borrow.Author.Tests.{eqb-true, eq-eqb}
 use Rattle.math.proofs.Choice.{cond_elim}
 use Rattle.gmp_control.specs.Word.{modulus, word_of, count_bits, equal_indicators, sign}
-use Rattle.gmp_control.specs.Pattern.{Table, Rule, pattern_at, change_at}
+use Rattle.gmp_control.specs.Pattern.{Table, Rule, pattern_at}
 use Rattle.gmp_control.specs.Announce.{changes_by, announced}
 use Rattle.gmp_control.proofs.Pairing.{Of, sent, after}
 

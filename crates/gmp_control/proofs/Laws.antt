@@ -1,10 +1,10 @@
 -- What the crates above cite of the control word: how a sink's count and remembered word go along
 -- with the words that a source writes. All of it holds for every table of patterns that keeps the
 -- rule. Assumes nothing.
-use mathlib.Core.Path.{◌≡◌, refl, sym, ap, ◌∙◌, subst, subst⁻¹}
+use mathlib.Core.Path.{◌≡◌, refl, sym, ap, ◌∙◌, subst⁻¹}
 use mathlib.Core.Logic.{◌⊎◌, inl, inr}
 use mathlib.Core.Bool.{Bool, true, false, true≢false, cond}
-use Prim.Native.Nat.{ℕ, ◌*◌, ◌/◌, ◌%◌, ◌+◌, ◌<◌}
+use Prim.Native.Nat.{ℕ, ◌<◌}
 use native.Mathlib.Omega.{arith}
 use Rattle.gmp_settings.specs.declared.Settings.{Settings}
 use Rattle.gmp_settings.specs.Settings.{Fit, outside}
@@ -15,10 +15,10 @@ use Rattle.gmp_standing.specs.Standing.{Finding, finding, READ, TRACKED, OUTSIDE
 use Rattle.gmp_standing.specs.Known.{in_window}
 use Rattle.gmp_control.specs.declared.Remembered.{Remembered}
 use Rattle.gmp_control.specs.declared.Remembered.TheVariants.{Word, Nothing}
-use Rattle.gmp_control.specs.Word.{modulus, word_of, count_bits, equal_indicators, word_bytes, word_by}
+use Rattle.gmp_control.specs.Word.{modulus, equal_indicators, word_bytes, word_by}
 use Rattle.gmp_control.specs.Pattern.{Table, Rule}
 use Rattle.gmp_control.specs.Announce.{announced}
-use Rattle.gmp_control.specs.Follow.{usable, tracked, from_count, from_word, or_else, reached, windowed_by, windowed, found_by}
+use Rattle.gmp_control.specs.Follow.{usable, tracked, from_count, from_word, reached, windowed_by, windowed, found_by}
 use Rattle.gmp_control.specs.Claims.{ContinuesOne, TablesServe}
 use Rattle.gmp_control.proofs.Tables.{standard_rule}
 use Rattle.gmp_control.proofs.Pairing.{one_continued}

@@ -9,7 +9,7 @@ use Rattle.gmp_settings.specs.Settings.{Fit, opu0, outside}
 use Rattle.gmp_settings.proofs.Laws.{settings_fit}
 use Rattle.gmp_standing.specs.declared.Count.TheVariants.{Known, Unknown}
 use Rattle.gmp_standing.specs.Known.{in_window}
-use Rattle.gmp_control.specs.declared.Remembered.TheVariants.{Word, Nothing}
+use Rattle.gmp_control.specs.declared.Remembered.TheVariants.{Nothing}
 use Rattle.gmp_control.specs.Word.{modulus, equal_indicators}
 use Rattle.gmp_control.specs.Pattern.{Short}
 use Rattle.gmp_control.specs.Announce.{announced}

@@ -10,7 +10,6 @@ use lib.Dec.{eqb}
 use lib.Bits.{bit_xor, xor_comm, xor_self}
 use borrow.Author.Tests.{eqb-true, eq-eqb, ne_eqb}
 use Rattle.math.proofs.Xor.{xor_undo, xor_undo_l, xor_assoc}
-use Rattle.gmp_standing.specs.declared.Count.{Count}
 use Rattle.gmp_standing.specs.declared.Count.TheVariants.{Known, Unknown}
 use Rattle.gmp_control.specs.Word.{moved}
 use Rattle.gmp_control.specs.Pattern.{Table, Rule, pattern_at, change_at}

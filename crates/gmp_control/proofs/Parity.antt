@@ -1,7 +1,7 @@
 -- Why a word continues one count only. The two patterns of a sign differ in the bits D, the same
 -- for both signs, and of their two changes one is odd and one even. Nothing here looks at the
 -- patterns themselves. Assumes nothing.
-use mathlib.Core.Path.{◌≡◌, refl, sym, ap, ◌∙◌}
+use mathlib.Core.Path.{◌≡◌, sym, ap, ◌∙◌}
 use mathlib.Core.Logic.{◌⊎◌, inl, inr, ⊎_elim, ⊎_map}
 use Prim.Native.Nat.{ℕ, ◌+◌, ◌%◌}
 use native.Mathlib.Omega.{arith}

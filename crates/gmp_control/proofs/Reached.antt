@@ -2,7 +2,7 @@
 -- for every table that keeps the rule. Assumes nothing.
 use mathlib.Core.Path.{◌≡◌, refl, sym, ap, ◌∙◌, subst⁻¹, subst}
 use mathlib.Core.Logic.{◌⊎◌, inl, inr, ⊎_elim}
-use mathlib.Core.Bool.{Bool, true, false, cond}
+use mathlib.Core.Bool.{true, false, cond}
 use Prim.Native.Nat.{ℕ, ◌+◌}
 use Rattle.gmp_standing.specs.declared.Count.{Count}
 use Rattle.gmp_standing.specs.declared.Count.TheVariants.{Known, Unknown}
@@ -13,7 +13,7 @@ use Rattle.gmp_control.specs.Word.{count_bits, equal_indicators, sign}
 use Rattle.gmp_control.specs.Pattern.{Table, Rule}
 use Rattle.gmp_control.specs.Follow.{tracked, candidate, or_else, paired, from_count, from_word, tracked_else_paired, reached}
 use Rattle.gmp_control.proofs.Pairing.{Possible, tracked_true, reached_possible, paired_true, possible_leads}
-use Rattle.gmp_control.proofs.Announced.{Plain, Changes, Announces}
+use Rattle.gmp_control.proofs.Announced.{Changes, Announces}
 
 -- the count is none, or has the property
 abbrev pub NoneOr : (ℕ → Type 0) → Count → Type 0

@@ -14,7 +14,7 @@ use Rattle.gmp_settings.specs.declared.Patterns.{Patterns}
 use Rattle.gmp_settings.specs.declared.Patterns.TheVariants.{Standard, Given}
 use Rattle.gmp_settings.specs.Patterns.{breaks_rule, exceeds, bad_given, bad_patterns}
 use Rattle.gmp_control.specs.Word.{modulus}
-use Rattle.gmp_control.specs.Pattern.{standard, table_by, table_of, pattern_at, change_at, Rule}
+use Rattle.gmp_control.specs.Pattern.{standard, table_by, table_of, change_at, Rule}
 use Rattle.gmp_control.specs.Checked.{RuleIsChecked}
 
 -- a table of four has nothing beyond

@@ -1,6 +1,6 @@
 -- What the sink makes of a word that was read (01, "Sink", rules 2 and 3). The clause draws
 -- the hunting for a count as Figure 17-12. Assumes nothing.
-use Rattle.std.specs.Prelude.{◌≡◌, Bool, cond, ℕ, ◌+◌, eqb}
+use Rattle.std.specs.Prelude.{◌≡◌, cond, ℕ, ◌+◌, eqb}
 use Rattle.std.specs.Int.Bits.{bit_xor}
 use Rattle.gmp_settings.specs.declared.Settings.{Settings}
 use Rattle.gmp_settings.specs.Settings.{outside}

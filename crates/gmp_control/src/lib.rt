@@ -2,6 +2,8 @@
 // keeps the rule serves, that the rule is what number 14 asks, and that no part of it can be left
 // out. What a source announces by the word is in the crate gmp_control_write, how a sink's count
 // follows it in the crate gmp_control_read.
+#![tactic(auto)]
+
 ghost use Rattle.std.specs.Prelude.{◌≡◌};
 ghost use Rattle.gmp_control.specs.Word.{moved};
 ghost use Rattle.gmp_control.specs.Pattern.{table_of, pattern_at, change_at};
@@ -12,21 +14,21 @@ use gmp_settings::{Patterns, Settings};
 use gmp_standing::{Count, Standing};
 
 // The two bytes of a word before its check.
-#[derive(Drop)]
+#[derive(Clone, Copy)]
 pub struct WordBytes {
     pub jc1: u8,
     pub jc2: u8,
 }
 
 // The word of the frame before, as JC1 times 256 plus JC2, where one is remembered.
-#[derive(Drop)]
+#[derive(Clone, Copy)]
 pub enum Remembered {
     Word(u32),
     Nothing,
 }
 
 // What a word leads to: the standing, the new count and the word to remember.
-#[derive(Drop)]
+#[derive(Clone, Copy)]
 pub struct Followed {
     pub standing: Standing,
     pub count: Count,

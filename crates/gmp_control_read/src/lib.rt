@@ -1,5 +1,7 @@
 // How a sink's count follows a control word that was read, whole or mended (rules 2 and 3 of 01's
 // "Sink").
+#![tactic(auto)]
+
 ghost use Rattle.std.specs.Prelude.{◌≡◌};
 ghost use Rattle.gmp_standing.specs.Standing.{standing_meaning};
 ghost use Rattle.gmp_control.specs.Word.{count_bits, equal_indicators, sign, word_by};

@@ -1,4 +1,6 @@
 // What a source announces by the control word of a frame.
+#![tactic(auto)]
+
 ghost use Rattle.std.specs.Prelude.{◌≡◌, ◌<◌};
 ghost use Rattle.std.specs.Int.Bits.{bit_xor};
 ghost use Rattle.gmp_control.specs.Word.{word_of, word_bytes};

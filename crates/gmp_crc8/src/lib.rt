@@ -2,17 +2,19 @@
 // that up to three wrong bits of 24, or two where one is mended, read as the word or are bad; and
 // that the syndrome is the remainder of the 24 bits as read. The code that checks and reads is in
 // the crate gmp_crc8_read.
+#![tactic(auto)]
+
 ghost use Rattle.gmp_crc8.specs.Claims.{ReadsAsItself, MendsOneBit, SyndromeDivides, BitsToldApart};
 
 // JC1 and JC2 of a control word that was read.
-#[derive(Drop)]
+#[derive(Clone, Copy)]
 pub struct ReadWord {
     pub jc1: u8,
     pub jc2: u8,
 }
 
 // What a control word reads as: whole, with one wrong bit mended, or bad.
-#[derive(Drop)]
+#[derive(Clone, Copy)]
 pub enum CheckedWord {
     Whole(ReadWord),
     Mended(ReadWord),

@@ -1,6 +1,8 @@
 // The check worked out a byte at a time: the remainder of JC1 and JC2, whether three bytes pass,
 // and what they read as. 01's "It is worked from a table of 256 remainders" is replaced by 02, P5:
 // "Work each remainder from the division rule itself".
+#![tactic(auto)]
+
 ghost use Rattle.std.specs.Prelude.{◌≡◌, cond, ◌<◌};
 ghost use Rattle.math.specs.Bits.{bits};
 ghost use Rattle.gmp_crc8.specs.Division.{divide};

@@ -4,7 +4,7 @@ use mathlib.Core.List.{List, [], ◌∷◌, ◌++◌, append_assoc, append-nil}
 use Prim.Native.Nat.{ℕ, ◌+◌, ◌*◌, ◌≤◌, ◌<◌}
 use native.Mathlib.Nat.{mul-le-mul_right}
 use native.Mathlib.Omega.{arith}
-use lib.ListN.{length, get_or, take, drop, length-append, length-take, length-drop}
+use lib.ListN.{length, get_or, length-append, length-take, length-drop}
 use lib.Seq.{take_at, drop-append-add, get_or-append-add}
 use Rattle.gmp_frame.specs.declared.Control.{Control}
 use Rattle.gmp_places.specs.Places.{placed, tabulate}

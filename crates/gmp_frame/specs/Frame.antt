@@ -1,6 +1,6 @@
 -- The frame's layout (01, "Settings and the frame"): four rows of K + 2 bytes. Rows are numbered
 -- from 0 here, payload bytes from 1. Assumes nothing.
-use Rattle.std.specs.Prelude.{◌≡◌, cond, ◌&&◌, List, [], ◌∷◌, ◌++◌, ℕ, ◌+◌, ◌*◌, ◌≤◌, length, get_or, take, drop, eqb, leb}
+use Rattle.std.specs.Prelude.{◌≡◌, cond, ◌&&◌, List, ◌∷◌, ◌++◌, ℕ, ◌+◌, ◌*◌, ◌≤◌, length, get_or, take, drop, eqb, leb}
 use Rattle.gmp_settings.specs.Grid.{payload_bytes, frame_bytes}
 use Rattle.gmp_frame.specs.declared.Control.{Control}
 use Rattle.gmp_places.specs.Places.{placed, tabulate, chosen}

@@ -1,11 +1,13 @@
 // The frame of the generic mapper: its layout of four rows, with the payload bytes at the stuffing
 // places, and the control bytes and the PSI byte of a frame. Writing a frame is in the crate
 // gmp_frame_write, taking the client bytes out of one in the crate gmp_frame_read.
+#![tactic(auto)]
+
 ghost use Rattle.std.specs.Prelude.{◌≡◌, get_or};
 ghost use Rattle.gmp_frame.specs.Frame.{control_of, psi_of, FrameGivesBack};
 
 // The three control bytes of a frame.
-#[derive(Drop)]
+#[derive(Clone, Copy)]
 pub struct Control {
     pub jc1: u8,
     pub jc2: u8,

@@ -1,4 +1,6 @@
 // Takes the client bytes out of a frame, at the places of the count.
+#![tactic(auto)]
+
 ghost use Rattle.std.specs.Prelude.{◌≡◌, ◌++◌, ◌+◌, ◌*◌, ◌≤◌, ◌<◌, length, drop};
 ghost use Rattle.gmp_stuffing.specs.Row.{row_client};
 ghost use Rattle.gmp_frame.specs.Frame.{columns, client_bytes, client_taken};

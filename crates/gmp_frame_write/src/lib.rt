@@ -1,5 +1,7 @@
 // Writes a frame: the control bytes, the PSI byte, and the client bytes at the places of their
 // count.
+#![tactic(auto)]
+
 ghost use Rattle.std.specs.Prelude.{◌≡◌, ◌++◌, ◌+◌, ◌*◌, ◌≤◌, ◌<◌, length, take, drop};
 ghost use Rattle.gmp_frame.specs.Frame.{row, frame, frame_written};
 

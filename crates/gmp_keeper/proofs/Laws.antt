@@ -1,16 +1,15 @@
 -- What an accepted call of the keeper knows, and what it gives. Assumes nothing.
-use mathlib.Core.Path.{◌≡◌, refl, sym, ap, ◌∙◌}
-use mathlib.Core.Bool.{Bool, true, false}
-use mathlib.Core.List.{List, [], ◌∷◌, ◌++◌}
+use mathlib.Core.Path.{◌≡◌, ap}
+use mathlib.Core.Bool.{false}
 use Prim.Native.Nat.{ℕ, ◌+◌, ◌*◌, ◌/◌, ◌%◌, ◌≤◌, ◌<◌}
 use native.Mathlib.Nat.{add-mul, mul-le-mul, le-div_iff_mul-le, div-lt_iff_lt-mul}
 use native.Mathlib.Omega.{arith}
-use lib.Dec.{eqb, ltb, leb, lit<}
-use borrow.Author.Tests.{eqb-false, ltb-false, leb-false, le-ltb, eq-eqb, ne_eqb}
+use lib.Dec.{eqb, ltb, lit<}
+use borrow.Author.Tests.{eqb-false, ltb-false, leb-false, le-ltb, ne_eqb}
 use Rattle.math.proofs.Choice.{neither}
 use Rattle.gmp_settings.specs.declared.Settings.{Settings}
 use Rattle.refusals.specs.Table.{accepted, refused}
-use Rattle.gmp_settings.specs.Settings.{settings_reasons, Fit, outside}
+use Rattle.gmp_settings.specs.Settings.{Fit, outside}
 use Rattle.gmp_settings.specs.Patterns.{bad_patterns}
 use Rattle.refusals.proofs.Laws.{none_applies}
 use Rattle.gmp_settings.proofs.Laws.{settings_fit, all_passed}

@@ -12,7 +12,7 @@ use lib.ListN.{length}
 use borrow.Author.Tests.{eqb-true, eqb-false}
 use Rattle.refusals.specs.Table.{accepted, accepts}
 use Rattle.gmp_settings.specs.Settings.{outside}
-use Rattle.gmp_keeper.specs.Keeper.{Kept, keeper_refusal, keeper_call, first_remainder}
+use Rattle.gmp_keeper.specs.Keeper.{Kept, keeper_refusal, first_remainder}
 use Rattle.gmp_keeper.specs.Sum.{KeeperCall, answered, given, counts_from, SharedRate, sum, CountsAddUp}
 use Rattle.gmp_keeper.specs.Nearest.{Nearest, TotalsAreNearest}
 use Rattle.gmp_keeper.proofs.Laws.{accepted_knows, count_inside, call_accepted, call_refused}

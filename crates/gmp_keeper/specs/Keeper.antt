@@ -2,7 +2,6 @@
 -- next count and keeps (r + p) mod q." Assumes nothing.
 use Rattle.std.specs.Prelude.{Bool, cond, ◌||◌, List, [], ◌∷◌, ◌++◌, ℕ, ◌+◌, ◌*◌, ◌/◌, ◌%◌, eqb, ltb, leb}
 use Rattle.gmp_settings.specs.declared.Settings.{Settings}
-use Rattle.gmp_refusal.specs.declared.Refusal.{Refusal}
 use Rattle.refusals.specs.Table.{Reason, reason, lowest, Answer, accepted, refused, answer_by}
 use Rattle.gmp_refusal.specs.Refusal.{refusal_number}
 use Rattle.gmp_settings.specs.Settings.{settings_reasons}

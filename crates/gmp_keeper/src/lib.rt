@@ -1,20 +1,22 @@
 // The rate keeper: from a rate p / q of client bytes a frame it gives the count of each frame, and
 // keeps the remainder; its counts add up, and the total of a new one is nearest to the rate's. Its
 // calls are in the crate gmp_keeper_call.
+#![tactic(auto)]
+
 ghost use Rattle.gmp_keeper.specs.Sum.{CountsAddUp};
 ghost use Rattle.gmp_keeper.specs.Nearest.{TotalsAreNearest};
 
 use gmp_refusal::Refusal;
 
 // The next count, or why the call is turned back.
-#[derive(Drop)]
+#[derive(Clone, Copy)]
 pub enum KeeperAnswer {
     Next(u32),
     Refused(Refusal),
 }
 
 // The answer, and the remainder to go on from.
-#[derive(Drop)]
+#[derive(Clone, Copy)]
 pub struct KeeperResult {
     pub answer: KeeperAnswer,
     pub remainder: u32,

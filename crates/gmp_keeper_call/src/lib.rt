@@ -1,4 +1,6 @@
 // The rate keeper's calls: the remainder to begin with, and the count of the next frame.
+#![tactic(auto)]
+
 ghost use Rattle.std.specs.Prelude.{◌≡◌, ◌/◌};
 ghost use Rattle.gmp_refusal.specs.Refusal.{verdict_number};
 ghost use Rattle.gmp_keeper.specs.Keeper.{bad_divisor, bad_rate, keeper_refusal, result_meaning, keeper_call, first_remainder};

@@ -1,11 +1,13 @@
 // The payload type that a sink accepts, whether it lets the client bytes of a frame pass, and that
 // three frames running have a type accepted from any state, and from a new sink on only three.
+#![tactic(auto)]
+
 ghost use Rattle.std.specs.Prelude.{◌≡◌};
 ghost use Rattle.gmp_payload_type.specs.Types.{new_types, is_last, seen_after, accepted_after, judged, types_after, gate_open};
 ghost use Rattle.gmp_payload_type.specs.Claims.{ThreeRunning};
 
 // The accepted type, or that there is none yet. Type 0 is a type.
-#[derive(Drop)]
+#[derive(Clone, Copy)]
 pub enum AcceptedType {
     PayloadType(u8),
     NoType,
@@ -13,7 +15,7 @@ pub enum AcceptedType {
 
 // What the last frames numbered 0 had: none has come, one type came once, or the same twice or more
 // running.
-#[derive(Drop)]
+#[derive(Clone, Copy)]
 pub enum Seen {
     Never,
     Once(u8),
@@ -21,7 +23,7 @@ pub enum Seen {
 }
 
 // What a sink remembers of types. Every value is legal.
-#[derive(Drop)]
+#[derive(Clone, Copy)]
 pub struct Types {
     pub accepted: AcceptedType,
     pub seen: Seen,
@@ -29,7 +31,7 @@ pub struct Types {
 
 // What a sink is told of a frame: its multiframe number, and the payload type that is expected.
 #[repr(C)]
-#[derive(Drop)]
+#[derive(Clone, Copy)]
 pub struct Expected {
     pub multiframe: u32,
     pub payload_type: u8,

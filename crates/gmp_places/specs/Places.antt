@@ -1,6 +1,6 @@
 -- The stuffing places (01, "Placing"). C is the count, S the number of payload bytes. Payload bytes
 -- are numbered from 1. Assumes nothing.
-use Rattle.std.specs.Prelude.{◌≡◌, Bool, true, false, cond, List, [], ◌∷◌, ◌++◌, ℕ, zero, suc, ◌+◌, ◌-◌, ◌*◌, ◌/◌, ◌%◌, ◌≤◌, get_or, ltb}
+use Rattle.std.specs.Prelude.{◌≡◌, Bool, cond, List, [], ◌∷◌, ◌++◌, ℕ, zero, suc, ◌+◌, ◌-◌, ◌*◌, ◌/◌, ◌%◌, ◌≤◌, get_or, ltb}
 
 -- "payload byte n carries a client byte if n × C mod S < C"
 abbrev pub carries : ℕ → ℕ → ℕ → Bool

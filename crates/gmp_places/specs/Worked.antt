@@ -1,7 +1,7 @@
 -- Of the worked places of 01, which stand in the crate claim_worked, the one that stands here too:
 -- it is what goes wrong if the payload bytes are numbered from 0 (the edit rule_from_zero). Assumes
 -- nothing.
-use Rattle.std.specs.Prelude.{◌≡◌, refl, Bool, true, false, List, [], ◌∷◌, map}
+use Rattle.std.specs.Prelude.{◌≡◌, refl, true, false, [], ◌∷◌, map}
 use Rattle.gmp_places.specs.Places.{carries}
 
 -- "S = 8, C = 3: places 3, 6, 8": whether each of the payload bytes 1 to 8 carries a client byte

@@ -1,5 +1,7 @@
 // The stuffing places of a frame: where client bytes stand in a payload, how many there are, and
 // how evenly they lie. No code runs here; gmp_stuffing goes by it.
+#![tactic(auto)]
+
 ghost use Rattle.gmp_places.specs.Places.{PlacesCounted};
 ghost use Rattle.gmp_places.specs.Even.{BytesLieEvenly};
 

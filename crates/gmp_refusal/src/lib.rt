@@ -1,11 +1,13 @@
 // The refusals of the mapper's calls: their numbers and names, and a verdict made line by line.
+#![tactic(auto)]
+
 ghost use Rattle.std.specs.Prelude.{◌≡◌};
 ghost use Rattle.refusals.specs.Table.{reason, with_line};
 ghost use Rattle.gmp_refusal.specs.Refusal.{refusal_number, refusal_place, verdict_number};
 
 // Why a call is turned back, in the order of the papers' numbers: 1 to 10, and 14. No call of the
 // mapper answers a number between.
-#[derive(Drop)]
+#[derive(Clone, Copy)]
 pub enum Refusal {
     Grid,
     Window,
@@ -21,7 +23,7 @@ pub enum Refusal {
 }
 
 // What a call's checks come to.
-#[derive(Drop)]
+#[derive(Clone, Copy)]
 pub enum Verdict {
     Accepted,
     Refused(Refusal),

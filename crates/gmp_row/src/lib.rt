@@ -2,6 +2,8 @@
 // client bytes stand, in parts of a byte. A row has k payload bytes, the frame has c client bytes,
 // and r is the row, from 0. They are told of one of four rows below 2^17 bytes that leave room for
 // stuffing; of other numbers nothing is promised.
+#![tactic(auto)]
+
 ghost use Rattle.std.specs.Prelude.{◌≡◌, ◌&&◌, cond, ℕ, ◌+◌, ◌-◌, ◌*◌, ◌/◌, ◌%◌, ◌≤◌, ◌<◌, ltb};
 
 // As many parts has a byte, 2^40: in rows below 2^17 bytes a place told in them lies in the right
@@ -11,7 +13,7 @@ pub const PARTS: usize = 1099511627776;
 // The stuffing bytes of a row: how many come before the row, where the next one stands, be it in a
 // later row, and how far it is from one to the next, in parts; and the width of a block, which
 // holds any run and has room as long as the next stuffing byte stands below stop.
-#[derive(Drop)]
+#[derive(Clone, Copy)]
 pub struct RowRuns {
     pub before: usize,
     pub parts: usize,
@@ -22,7 +24,7 @@ pub struct RowRuns {
 
 // The client bytes of a row: the number of the first and that after the last, where the first
 // stands, be it in a later row, and how far it is from one to the next, in parts.
-#[derive(Drop)]
+#[derive(Clone, Copy)]
 pub struct RowSingles {
     pub first: usize,
     pub end: usize,

@@ -1,12 +1,14 @@
 // The settings of a card: the grid of a frame, the window of counts, the inversion patterns,
 // whether a sink mends one wrong control bit, and whether it checks the payload type.
+#![tactic(auto)]
+
 ghost use Rattle.std.specs.Prelude.{◌≡◌};
 ghost use Rattle.gmp_settings.specs.Settings.{new_settings, with_patterns, with_mending, with_type_check, opu0};
 
 // The grid K, payload columns in a row; the window of counts; the inversion patterns; and, at which
 // sources and keepers do not look, whether a sink mends one wrong control bit and whether it checks
 // the payload type.
-#[derive(Drop)]
+#[derive(Clone, Copy)]
 pub struct Settings {
     pub k: u32,
     pub lo: u32,
@@ -17,14 +19,14 @@ pub struct Settings {
 }
 
 // The standard's patterns, or four that are given.
-#[derive(Drop)]
+#[derive(Clone, Copy)]
 pub enum Patterns {
     Standard,
     Given(FourPatterns),
 }
 
 // Patterns of 14 bits, C1 to C14, for the changes +1, -1, +2, -2.
-#[derive(Drop)]
+#[derive(Clone, Copy)]
 pub struct FourPatterns {
     pub plus1: u32,
     pub minus1: u32,

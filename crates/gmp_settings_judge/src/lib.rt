@@ -1,5 +1,7 @@
 // What calls ask of the settings: whether they are refused, whether a count lies outside the
 // window, and how long a frame is.
+#![tactic(auto)]
+
 ghost use Rattle.std.specs.Prelude.{◌≡◌};
 ghost use Rattle.refusals.specs.Table.{lowest};
 ghost use Rattle.gmp_refusal.specs.Refusal.{verdict_number};

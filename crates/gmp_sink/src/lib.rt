@@ -1,6 +1,8 @@
 // The sink: its state, what it answers, a new sink, that with mending off and with the type check
 // off all is as 01 says, that counts are followed whatever the types are, and that the port matters
 // to number 10 alone. The call that takes a frame is in the crate gmp_sink_call.
+#![tactic(auto)]
+
 ghost use Rattle.std.specs.Prelude.{◌≡◌};
 ghost use Rattle.gmp_sink.specs.Sink.{new_sink, AnyPort, OffAsBefore, UncheckedAsBefore, CountsFollowed};
 
@@ -10,7 +12,7 @@ use gmp_refusal::Refusal;
 use gmp_standing::{Count, Standing};
 
 // A known count or none, a remembered word or none, and what is remembered of payload types.
-#[derive(Drop)]
+#[derive(Clone, Copy)]
 pub struct SinkState {
     pub count: Count,
     pub word: Remembered,
@@ -18,7 +20,7 @@ pub struct SinkState {
 }
 
 // The standing after the frame, or why the call is turned back.
-#[derive(Drop)]
+#[derive(Clone, Copy)]
 pub enum SinkAnswer {
     Done(Standing),
     Refused(Refusal),
@@ -26,7 +28,7 @@ pub enum SinkAnswer {
 
 // The answer, the state to go on from, the number of bytes handed out, and whether a wrong control
 // bit was mended.
-#[derive(Drop)]
+#[derive(Clone, Copy)]
 pub struct SinkResult {
     pub answer: SinkAnswer,
     pub state: SinkState,
@@ -35,7 +37,7 @@ pub struct SinkResult {
 }
 
 // What the control bytes of a frame lead to, and whether one of their bits was mended.
-#[derive(Drop)]
+#[derive(Clone, Copy)]
 pub struct ControlRead {
     pub followed: Followed,
     pub mended: bool,

@@ -1,6 +1,8 @@
 // The sink's call without the tallies: it hands out the client bytes of a frame at the places of
 // the count that it knew before, where the payload type lets them pass, and follows the control
 // word and the type.
+#![tactic(auto)]
+
 ghost use Rattle.std.specs.Prelude.{length};
 ghost use Rattle.gmp_sink.specs.Sink.{handed, released, SinkPromise};
 ghost use Rattle.gmp_sink.proofs.Laws.{Accepted};
@@ -14,7 +16,7 @@ use gmp_standing::Count;
 
 // What a frame leads to: the answer, the state to go on from, and whether a wrong control bit was
 // mended.
-#[derive(Drop)]
+#[derive(Clone, Copy)]
 struct FrameRead {
     answer: SinkAnswer,
     state: SinkState,

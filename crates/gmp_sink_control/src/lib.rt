@@ -1,5 +1,7 @@
 // What the control bytes of a frame lead to in the sink (rules 1 to 3 of 01's "Sink"): the check,
 // whether a bit was mended, and the word followed from the sink's state.
+#![tactic(auto)]
+
 ghost use Rattle.gmp_sink_control.specs.Control.{FollowsWord, ReadsControl};
 
 use gmp_control::{Followed, Remembered};

@@ -1,4 +1,6 @@
 // Why a call of the sink is turned back, or that it is not.
+#![tactic(auto)]
+
 ghost use Rattle.std.specs.Prelude.{◌≡◌};
 ghost use Rattle.gmp_refusal.specs.Refusal.{verdict_number};
 ghost use Rattle.gmp_sink.specs.Sink.{sink_refusal};

@@ -1,7 +1,7 @@
 -- What an accepted call of the source knows, and the cases of its definitions. Assumes nothing.
 use mathlib.Core.Path.{◌≡◌, refl}
-use mathlib.Core.Bool.{Bool, true, false, not}
-use mathlib.Core.List.{List, ◌++◌}
+use mathlib.Core.Bool.{true, false, not}
+use mathlib.Core.List.{List}
 use Prim.Native.Nat.{ℕ, ◌≤◌, ◌<◌}
 use native.Mathlib.Omega.{arith}
 use lib.Dec.{eqb, lit<}
@@ -11,7 +11,7 @@ use Rattle.gmp_crc8.specs.Check.{passes}
 use Rattle.gmp_crc8.proofs.Laws.{written_passes, remainder_lt}
 use Rattle.gmp_settings.specs.declared.Settings.{Settings}
 use Rattle.gmp_settings.specs.Grid.{payload_bytes, frame_bytes}
-use Rattle.gmp_settings.specs.Settings.{settings_reasons, Fit, outside}
+use Rattle.gmp_settings.specs.Settings.{Fit, outside}
 use Rattle.gmp_settings.specs.Patterns.{bad_patterns}
 use Rattle.refusals.specs.Table.{lowest}
 use Rattle.refusals.proofs.Laws.{none_applies, Judged}

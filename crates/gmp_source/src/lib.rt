@@ -1,5 +1,7 @@
 // The source: its state, what it answers, and a new source. The call that writes a frame is in the
 // crate gmp_source_call.
+#![tactic(auto)]
+
 ghost use Rattle.std.specs.Prelude.{◌≡◌};
 ghost use Rattle.refusals.specs.Table.{lowest};
 ghost use Rattle.gmp_refusal.specs.Refusal.{verdict_number};
@@ -10,7 +12,7 @@ use gmp_settings::Settings;
 
 // The present count, the multiframe number and the payload type.
 #[repr(C)]
-#[derive(Drop)]
+#[derive(Clone, Copy)]
 pub struct SourceState {
     pub count: u32,
     pub multiframe: u32,
@@ -18,14 +20,14 @@ pub struct SourceState {
 }
 
 // A new source, or why there is none.
-#[derive(Drop)]
+#[derive(Clone, Copy)]
 pub enum SourceStart {
     New(SourceState),
     Refused(Refusal),
 }
 
 // Whether the call was accepted, and the state to go on from.
-#[derive(Drop)]
+#[derive(Clone, Copy)]
 pub struct SourceResult {
     pub answer: Verdict,
     pub state: SourceState,

@@ -1,4 +1,6 @@
 // The source's call: it maps client bytes into a frame and announces in it the count of the next.
+#![tactic(auto)]
+
 ghost use Rattle.std.specs.Prelude.{◌≡◌, length};
 ghost use Rattle.gmp_refusal.specs.Refusal.{verdict_number};
 ghost use Rattle.gmp_source.specs.Source.{source_refusal, psi, control_bytes, SourcePromise};

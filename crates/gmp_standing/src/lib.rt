@@ -1,5 +1,7 @@
 // The six standings of a sink with what each found, their names, and the count that it knows or
 // does not know.
+#![tactic(auto)]
+
 ghost use Rattle.std.specs.Prelude.{◌≡◌};
 ghost use Rattle.gmp_standing.specs.Standing.{standing_meaning, standing_number};
 ghost use Rattle.gmp_standing.specs.Known.{in_window};
@@ -7,14 +9,14 @@ ghost use Rattle.gmp_standing.specs.Known.{in_window};
 use gmp_settings::Settings;
 
 // A count, where it is known.
-#[derive(Drop)]
+#[derive(Clone, Copy)]
 pub enum Count {
     Known(u32),
     Unknown,
 }
 
 // The answer of a sink to a frame: the first three found a count.
-#[derive(Drop)]
+#[derive(Clone, Copy)]
 pub enum Standing {
     Read(u32),
     Tracked(u32),

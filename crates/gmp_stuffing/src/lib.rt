@@ -4,6 +4,8 @@
 // they are no more, each goes to its place in a cleared row. A place is told by a sum in small
 // parts of a byte, so that one addition leads from one to the next: there is no division for a
 // byte. Other rows go byte by byte.
+#![tactic(auto)]
+
 ghost use Rattle.std.specs.Prelude.{◌≡◌, ◌&&◌, ℕ, ◌+◌, ◌-◌, ◌*◌, ◌/◌, ◌%◌, ◌≤◌, ◌<◌, length, replicate, ltb, leb};
 ghost use Rattle.gmp_stuffing.specs.Row.{row_fits, row_bytes, row_client, row_placed, row_taken};
 ghost use Rattle.gmp_stuffing.specs.Copied.{copied};

@@ -1,4 +1,6 @@
 // The ports of the card, eight, numbered from 1, and when a port is refused.
+#![tactic(auto)]
+
 ghost use Rattle.std.specs.Prelude.{◌≡◌};
 ghost use Rattle.ports.specs.Port.{bad_port};
 

@@ -1,9 +1,11 @@
 // The number that a text spells in decimal.
+#![tactic(auto)]
+
 ghost use Rattle.std.specs.Prelude.{◌≡◌};
 ghost use Rattle.program_decimal.specs.Number.{with_digit, number_of};
 
 // A number of 32 bits, or that a text is none.
-#[derive(Drop)]
+#[derive(Clone, Copy)]
 pub enum Number {
     Value(u32),
     Wrong,

@@ -1,4 +1,6 @@
 // A name out of a text of names, for the programs that write one.
+#![tactic(auto)]
+
 ghost use Rattle.std.specs.Prelude.{◌≡◌};
 ghost use Rattle.program_name.specs.Name.{name_of};
 

@@ -1,11 +1,11 @@
 -- How a function that judges a call is proved, line by line, and what a call knows that no line
 -- turned back. Assumes nothing.
-use mathlib.Core.Path.{◌≡◌, refl, sym, ap, ap₂, ◌∙◌}
+use mathlib.Core.Path.{◌≡◌, refl, sym, ap₂, ◌∙◌}
 use mathlib.Core.Bool.{Bool, true, false, cond}
 use mathlib.Core.List.{List, [], ◌∷◌, ◌++◌}
 use Prim.Native.Nat.{ℕ, ◌<◌}
 use native.Mathlib.Omega.{arith}
-use lib.Dec.{ltb, eqb}
+use lib.Dec.{ltb}
 use borrow.Author.Tests.{ltb-true, ne_eqb}
 use Rattle.math.proofs.Choice.{both_true}
 use Rattle.refusals.specs.Table.{Reason, reason, lowest, ascending, with_line}

@@ -1,0 +1,13 @@
+-- `gmp_stuffing::copy_run` meets its contract. The loop has copied k bytes, in whole pairs of
+-- blocks. Assumes nothing.
+use mathlib.Core.Path.{◌≡◌}
+use Prim.Native.Nat.{◌-◌, ◌≤◌}
+use lib.ListN.{length}
+use Rattle.gmp_stuffing.specs.Copied.{copied}
+use Rattle.gmp_stuffing.proofs.copy_run.Given as goal
+
+abbrev pub invariant-loop-k : goal.invariant-loop-k
+invariant-loop-k l = (l.k ≤ l.m) × (length l.dst ≡ length l.initial.dst) × (l.dst ≡ copied l.initial.dst l.i l.src l.j l.k)
+
+abbrev pub decreases-loop-k : goal.decreases-loop-k
+decreases-loop-k l = l.m - l.k
