@@ -1,3 +1,4 @@
+mod Contracts
 mod Observed
 mod Lent
 mod Worked

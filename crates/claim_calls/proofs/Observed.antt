@@ -69,14 +69,6 @@ tallies_are y (c ∷ cs) t h =
 pub as_defined : AsDefined
 as_defined =
     record {
-      contracts =
-          record {
-            new_source_lem = λ κs s first payload_type r p. p;
-            new_sink_lem = λ κs r p. p;
-            source_call_lem = λ κs s z next client buffer r frame p. p;
-            count_call = λ κs s z w frame buffer port y r out p. p;
-            lend_call = λ κs s z w frame buffer port y r out p. p;
-          };
       source = source_is;
       refusal = λ x. x.kept.refusal;
       frame = λ x. x.kept.frame_buffer;

@@ -23,7 +23,6 @@ use Rattle.gmp_control.specs.Follow.{usable, tracked, candidate, paired, reached
 use Rattle.gmp_places.specs.Places.{places, chosen}
 use Rattle.gmp_frame.specs.Frame.{columns, payload, client_bytes, control_of}
 use Rattle.gmp_payload_type.specs.Types.{judged, types_after, gate_open}
-use Rattle.gmp_source.specs.declared.SourceState.{SourceState}
 use Rattle.gmp_source.specs.Source.{source_refusal, source_state}
 use Rattle.card_tally.specs.declared.Tallies.{Tallies}
 use Rattle.card_tally.specs.Ports.{new_tallies}
@@ -32,7 +31,7 @@ use Rattle.gmp_sink.specs.declared.SinkState.{SinkState}
 use Rattle.gmp_sink.specs.declared.SinkAnswer.{SinkAnswer}
 use Rattle.gmp_sink.specs.declared.SinkAnswer.TheVariants.{Done, Refused as TurnedBack}
 use Rattle.gmp_sink.specs.Sink.{new_sink, answer_meaning, sink_refusal, sink_answer, handed, released, standing_after, state_after, sink_state, sink_handed}
-use Rattle.claim_recovery.specs.Runs.{SourceCall, SinkCall, SourceStep, SinkStep, refusal_of, source_after, sink_after, sink_steps, frame_of, answer_of, mended_of, handed_of, out_of}
+use Rattle.claim_recovery.specs.Runs.{SinkCall, SourceStep, SinkStep, refusal_of, source_after, sink_after, sink_steps, frame_of, answer_of, mended_of, handed_of, out_of}
 use Rattle.claim_worked.specs.Run.{small, wrong, room, send, source, frame1, frame2, frame3, lend_on, lost}
 use Rattle.claim_calls.specs.Observed.{SourceSeen, SinkSeen, SinkPassed, sink_calls, sink_taken}
 use Rattle.claim_calls.specs.Worked.{on_one, handed_numbers, WorkedSeen}

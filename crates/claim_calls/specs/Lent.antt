@@ -1,7 +1,7 @@
--- The call that is lent the tallies, `card_sink::sink_call`, is proved by a walk of its code, and
--- the toolchain makes no reading of its contract. What its clause says of a call, of its result r
--- and of what it left, e, is the promise that an observed call keeps. It speaks of the clause
--- itself, so it is larger than what a contract can hold; its proof is in proofs/. Assumes nothing.
+-- What the clause of the call that is lent the tallies, `card_sink::sink_call`, says of a call, of
+-- its result r and of what it left, e, is the promise that an observed call keeps. It speaks of the
+-- clause itself, so it is larger than what a contract can hold; its proof is in proofs/, and
+-- `sink_call_kept` has the promise as its contract. Assumes nothing.
 use Rattle.std.specs.Prelude.{◌≡◌}
 use seplogic.Ra.Ura.{Ura}
 use base.Logic.{SProp}

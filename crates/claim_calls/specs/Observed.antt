@@ -1,28 +1,19 @@
 -- Runs as they are observed: of each call what it was given, what it returned and what it left in
--- the lent buffers. All that is known of a call is the promise of its contract. Such runs are those
+-- the lent buffers. All that is known of a call is the promise of its contract: the functions named
+-- `.._kept` promise that of the real calls. What the toolchain reads off their contracts is stated
+-- in proofs/Contracts.antt and specs/Lent.antt, since no clause may cite it. Such runs are those
 -- that the claims are about. Assumes nothing.
 use Rattle.std.specs.Prelude.{◌≡◌, cond, List, [], ◌∷◌, ℕ, eqb, length}
-use contract.Lifetimes.{Lfts}
-use denote.Ref.{MutBor, at_last}
 use Rattle.refusals.specs.Table.{accepts}
 use Rattle.gmp_refusal.specs.Refusal.{verdict_number}
-use Rattle.gmp_settings.specs.declared.Settings.{Settings}
 use Rattle.card_tally.specs.declared.Tallies.{Tallies}
 use Rattle.gmp_source.specs.declared.SourceState.{SourceState}
 use Rattle.gmp_source.specs.declared.SourceResult.{SourceResult}
-use Rattle.gmp_source.specs.declared.SourceStart.{SourceStart}
-use Rattle.gmp_source.specs.Source.{SourcePromise, start_meaning, new_source}
-use Rattle.gmp_source.proofs.new_source.Reads as start-reading
-use Rattle.gmp_source_call.proofs.source_call.Reads as source-reading
-use Rattle.gmp_payload_type.specs.declared.Expected.{Expected}
+use Rattle.gmp_source.specs.Source.{SourcePromise}
 use Rattle.gmp_sink.specs.declared.SinkState.{SinkState}
 use Rattle.gmp_sink.specs.declared.SinkResult.{SinkResult}
-use Rattle.gmp_sink.specs.Sink.{answer_meaning, new_sink}
-use Rattle.gmp_sink.proofs.new_sink.Reads as new-reading
-use Rattle.card_count.specs.declared.Counted.{Counted}
+use Rattle.gmp_sink.specs.Sink.{answer_meaning}
 use Rattle.card_promise.specs.Card.{CardPromise}
-use Rattle.card_count.proofs.count_call.Reads as count-reading
-use Rattle.card_sink.proofs.lend_call.Reads as lend-reading
 use Rattle.claim_recovery.specs.Runs.{SourceCall, SinkCall, SourceStep, SinkStep, refusal_of, source_steps, sink_steps, sink_end, frame_of, answer_of, mended_of, handed_of, out_of}
 use Rattle.claim_recovery.specs.Tallied.{tallies_end}
 
@@ -82,30 +73,11 @@ abbrev pub sink_made : List SinkSeen → List SinkStep
 sink_made [] = []
 sink_made (y ∷ ys) = y.step ∷ sink_made ys
 
--- What the toolchain reads off the contracts of the calls (`Learnt`) is their promise: of what a
--- call was given, returned and left in the buffers that it was lent. A run begins with the source
--- that `new_source` made and the sink that `new_sink` made.
-pub record ContractsPromise : Type 0 where
-  pub new_source_lem : (κs : Lfts 0) (s : Settings) (first payload_type : ℕ) (r : SourceStart)
-      → start-reading.Learnt κs (s, (first, (payload_type, tt))) r (s, (first, (payload_type, tt)))
-      → start_meaning r ≡ new_source s first payload_type
-  pub new_sink_lem : (κs : Lfts 0) (r : SinkState) → new-reading.Learnt κs tt r tt → r ≡ new_sink
-  pub source_call_lem : (κs : Lfts 2) (s : Settings) (z : SourceState) (next : ℕ) (client buffer : MutBor (List ℕ)) (r : SourceResult) (frame : List ℕ)
-      → source-reading.Learnt κs (s, (z, (next, (client, (buffer, tt))))) r (s, (z, (next, (client, (at_last buffer frame, tt)))))
-      → SourcePromise s z next client.now buffer.now r frame
-  pub count_call : (κs : Lfts 2) (s : Settings) (z : SinkState) (w : Expected) (frame buffer : MutBor (List ℕ)) (port : ℕ) (y : Tallies) (r : Counted) (out : List ℕ)
-      → count-reading.Learnt κs (s, (z, (w, (frame, (buffer, (port, (y, tt))))))) r (s, (z, (w, (frame, (at_last buffer out, (port, (y, tt)))))))
-      → CardPromise s z w frame.now buffer.now port y r.result out r.tallies
-  pub lend_call : (κs : Lfts 2) (s : Settings) (z : SinkState) (w : Expected) (frame buffer : MutBor (List ℕ)) (port : ℕ) (y : Tallies) (r : Counted) (out : List ℕ)
-      → lend-reading.Learnt κs (s, (z, (w, (frame, (buffer, (port, (y, tt))))))) r (s, (z, (w, (frame, (at_last buffer out, (port, (y, tt)))))))
-      → CardPromise s z w frame.now buffer.now port y r.result out r.tallies
-
 -- Calls that keep their promises go as the definitions go. The accepted calls of a run are its
 -- steps, each answers, says of mending and leaves in its buffer what the step does, and the last
 -- state is that of the run. The tallies after the calls of all sinks of a card are those of their
 -- steps.
 pub record AsDefined : Type 0 where
-  pub contracts : ContractsPromise
   pub source : (z : SourceState) (seen : List SourceSeen) → SourcePassed z seen → source_taken seen ≡ source_steps z (source_calls seen)
   pub refusal : (x : SourceSeen) → verdict_number x.result.answer ≡ refusal_of x.step
   pub frame : (x : SourceSeen) → x.frame ≡ frame_of x.step

@@ -1,7 +1,4 @@
 -- What a caller of the C interface sees is what the claims speak of. Assumes nothing.
-use mathlib.Core.Path.{◌≡◌}
-use native.Mathlib.Omega.{arith}
-use Rattle.gmp_keeper.specs.Keeper.{first_remainder}
 use Rattle.claim_interface.specs.Observed.{AsClaimed}
 use Rattle.claim_interface.proofs.Sources as sources
 use Rattle.claim_interface.proofs.Sinks as sinks
@@ -10,15 +7,6 @@ use Rattle.claim_interface.proofs.Keepers as keepers
 pub as_claimed : AsClaimed
 as_claimed =
     record {
-      contracts =
-          record {
-            source_begins = λ κs s first payload_type r e. e;
-            source = λ κs s z next client buffer r frame e. e;
-            sink_begins = λ κs r e. e;
-            sink = λ κs s x w frame buffer port tallies r out t e. e;
-            keeper_begins = λ κs q r e. let h : r ≡ first_remainder q = e in omega arith;
-            keeper = λ κs s p q r k e. e;
-          };
       runs = record { source = sources.source_runs; sink = sinks.sink_runs; keeper = keepers.keeper_runs };
       source = sources.source_is;
       refusal = sources.refusal_is;

@@ -5,9 +5,8 @@ use mathlib.Core.List.{List, [], ◌∷◌, ◌++◌}
 use Prim.Native.Nat.{ℕ, ◌+◌, ◌/◌, ◌<◌}
 use lib.Dec.{eqb}
 use lib.ListN.{length}
-use borrow.Author.Tests.{eqb-true, eqb-false}
-use Rattle.refusals.specs.Table.{Answer, accepted, refused, answer_by, accepts}
-use Rattle.gmp_keeper.specs.Keeper.{Kept, keeper_refusal, keeper_call, first_remainder}
+use Rattle.refusals.specs.Table.{accepted, refused, accepts}
+use Rattle.gmp_keeper.specs.Keeper.{keeper_refusal, keeper_call, first_remainder}
 use Rattle.gmp_keeper.specs.Sum.{answered, given, counts_from, SharedRate, sum}
 use Rattle.gmp_keeper.specs.Nearest.{Nearest}
 use Rattle.gmp_keeper.proofs.Sum.{totals_are_nearest}

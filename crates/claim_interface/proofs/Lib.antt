@@ -1,3 +1,4 @@
+mod Contracts
 mod Named
 mod Sources
 mod Sinks

@@ -11,7 +11,7 @@ use Rattle.gmp_settings.specs.declared.Settings.{Settings}
 use Rattle.gmp_standing.specs.Standing.{Finding}
 use Rattle.gmp_frame.specs.Frame.{control_of}
 use Rattle.gmp_sink.specs.declared.SinkState.{SinkState}
-use Rattle.gmp_sink.specs.Sink.{standing_after, sink_refusal, sink_answer, sink_mended, sink_handed, sink_out}
+use Rattle.gmp_sink.specs.Sink.{standing_after, sink_refusal, sink_answer, sink_out}
 use Rattle.gmp_sink.proofs.Laws.{state_refused}
 use Rattle.card_tally.specs.declared.Tallies.{Tallies}
 use Rattle.ports.specs.Port.{ports}
@@ -22,7 +22,7 @@ use Rattle.claim_recovery.specs.Tallied.{tallies_end}
 use Rattle.c_settings.specs.Numbers.{settings_from}
 use Rattle.c_sink_numbers.specs.declared.SinkNumbers.{SinkNumbers}
 use Rattle.c_sink_numbers.specs.declared.SinkReply.{SinkReply}
-use Rattle.c_sink_numbers.specs.Numbers.{state_from, state_numbers, sink_reply_by, sink_reply, tallies_from, tallies_numbers}
+use Rattle.c_sink_numbers.specs.Numbers.{state_from, sink_reply_by, sink_reply, tallies_from, tallies_numbers}
 use Rattle.c_sink_numbers.specs.Lossless.{answer_from, mended_from}
 use Rattle.c_sink_numbers.proofs.Laws.{lossless}
 use Rattle.claim_interface.specs.Observed.{SinkGiven, SinkSeen, SinkPassed, TalliesPassed, sink_call, sink_step, sink_calls, sink_taken, sink_made, sink_given}

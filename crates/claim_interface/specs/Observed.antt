@@ -1,35 +1,27 @@
 -- Runs as a caller of the C interface sees them: of each call the numbers that it was given, those
 -- that it returned, and what it left in the lent buffers. All that is known of a call is the
--- promise of its contract. Such runs are those that the claims are about. Assumes nothing.
-use Rattle.std.specs.Prelude.{◌≡◌, Bool, true, cond, List, [], ◌∷◌, ◌++◌, ℕ, ◌<◌, eqb, length}
-use contract.Lifetimes.{Lfts}
-use denote.Ref.{MutBor, at_last}
-use Rattle.gmp_settings.specs.declared.Settings.{Settings}
+-- promise of its contract: the functions named `.._kept` promise that of the real calls. What the
+-- toolchain reads off their contracts is stated in proofs/Contracts.antt, since no clause may cite
+-- it. Such runs are those that the claims are about. Assumes nothing.
+use Rattle.std.specs.Prelude.{◌≡◌, cond, List, [], ◌∷◌, ◌++◌, ℕ, ◌<◌, eqb, length}
 use Rattle.gmp_keeper.specs.Keeper.{keeper_call, first_remainder}
 use Rattle.gmp_keeper.specs.Sum.{KeeperCall, counts_from, sum}
 use Rattle.gmp_keeper.specs.Nearest.{Nearest}
 use Rattle.gmp_source.specs.declared.SourceState.{SourceState}
-use Rattle.gmp_source.specs.Source.{new_source, source_frame}
+use Rattle.gmp_source.specs.Source.{source_frame}
 use Rattle.gmp_payload_type.specs.declared.Expected.{Expected}
-use Rattle.gmp_sink.specs.Sink.{new_sink}
 use Rattle.claim_recovery.specs.Runs.{Bytes, SourceCall, SinkCall, SourceStep, SinkStep, refusal_of, source_steps, sink_steps, sink_end, frame_of, answer_of, mended_of, handed_of, out_of}
 use Rattle.claim_recovery.specs.Tallied.{tallies_end}
 use Rattle.c_settings.specs.declared.SettingsNumbers.{SettingsNumbers}
 use Rattle.c_settings.specs.Numbers.{settings_from}
 use Rattle.c_source.specs.declared.SourceReply.{SourceReply}
-use Rattle.c_source.specs.Numbers.{start_reply, source_reply}
-use Rattle.c_source.proofs.odu0_source_new.Reads as source-new
-use Rattle.c_source.proofs.odu0_source_call.Reads as source_call_lem
+use Rattle.c_source.specs.Numbers.{source_reply}
 use Rattle.c_keeper.specs.declared.KeeperReply.{KeeperReply}
 use Rattle.c_keeper.specs.Numbers.{keeper_reply}
-use Rattle.c_keeper.proofs.odu0_keeper_new.Reads as keeper-new
-use Rattle.c_keeper.proofs.odu0_keeper_call.Reads as keeper-call
 use Rattle.c_sink_numbers.specs.declared.SinkNumbers.{SinkNumbers}
 use Rattle.c_sink_numbers.specs.declared.SinkReply.{SinkReply}
-use Rattle.c_sink_numbers.specs.Numbers.{state_from, state_numbers, tallies_from, tallies_numbers, InterfacePromise}
+use Rattle.c_sink_numbers.specs.Numbers.{state_from, tallies_from, tallies_numbers, InterfacePromise}
 use Rattle.c_sink_numbers.specs.Lossless.{answer_from, mended_from}
-use Rattle.c_sink.proofs.odu0_sink_new.Reads as sink-new
-use Rattle.c_sink.proofs.odu0_sink_call.Reads as sink-call
 
 -- what a caller chooses: of `odu0_source_call`, of `odu0_sink_call`, whose frame has bytes, and of
 -- `odu0_keeper_call`
@@ -162,23 +154,6 @@ abbrev pub keeper_given : List KeeperSeen → List KeeperGiven
 keeper_given [] = []
 keeper_given (x ∷ xs) = x.given ∷ keeper_given xs
 
--- What the toolchain reads off the contracts of the exported functions (`Learnt`) is what a call
--- that was seen keeps, and what a run begins with.
-pub record ContractsPromise : Type 0 where
-  pub source_begins : (κs : Lfts 0) (s : SettingsNumbers) (first payload_type : ℕ) (r : SourceReply)
-      → source-new.Learnt κs (s, (first, (payload_type, tt))) r (s, (first, (payload_type, tt)))
-      → r ≡ start_reply (new_source (settings_from s) first payload_type)
-  pub source : (κs : Lfts 2) (s : SettingsNumbers) (z : SourceState) (next : ℕ) (client buffer : MutBor (List ℕ)) (r : SourceReply) (frame : List ℕ)
-      → source_call_lem.Learnt κs (s, (z, (next, (client, (buffer, tt))))) r (s, (z, (next, (client, (at_last buffer frame, tt)))))
-      → (r ≡ source_reply (settings_from s) z next client.now buffer.now) × (frame ≡ source_frame (settings_from s) z next client.now buffer.now)
-  pub sink_begins : (κs : Lfts 0) (r : SinkNumbers) → sink-new.Learnt κs tt r tt → r ≡ state_numbers new_sink
-  pub sink : (κs : Lfts 3) (s : SettingsNumbers) (x : SinkNumbers) (w : Expected) (frame buffer : MutBor (List ℕ)) (port : ℕ) (tallies : MutBor (List ℕ)) (r : SinkReply) (out t : List ℕ)
-      → sink-call.Learnt κs (s, (x, (w, (frame, (buffer, (port, (tallies, tt))))))) r (s, (x, (w, (frame, (at_last buffer out, (port, (at_last tallies t, tt)))))))
-      → InterfacePromise (settings_from s) x w frame.now buffer.now port tallies.now r out t
-  pub keeper_begins : (κs : Lfts 0) (q r : ℕ) → keeper-new.Learnt κs (q, tt) r (q, tt) → r ≡ first_remainder q
-  pub keeper : (κs : Lfts 0) (s : SettingsNumbers) (p q r : ℕ) (k : KeeperReply) → keeper-call.Learnt κs (s, (p, (q, (r, tt)))) k (s, (p, (q, (r, tt))))
-      → k ≡ keeper_reply (keeper_call (settings_from s) p q r)
-
 -- Each list of calls can be made: there is a run of it from each state, remainder and tallies.
 pub record RunsThere : Type 0 where
   pub source : (z : SourceState) (calls : List SourceGiven) → (seen : List SourceSeen) × SourcePassed z seen × (source_given seen ≡ calls)
@@ -190,7 +165,6 @@ pub record RunsThere : Type 0 where
 -- reply stands for what the step answers, mends and hands out; each buffer is as the step leaves
 -- it; the last state, the 24 numbers and the counts are those of the run.
 pub record AsClaimed : Type 0 where
-  pub contracts : ContractsPromise
   pub runs : RunsThere
   pub source : (z : SourceState) (seen : List SourceSeen) → SourcePassed z seen → source_taken seen ≡ source_steps z (source_calls seen)
   pub refusal : (x : SourceSeen) → x.reply.refusal ≡ refusal_of (source_step x)

@@ -1,2 +1,3 @@
+mod Contracts
 mod Observed
 mod Worked

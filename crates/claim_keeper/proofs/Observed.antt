@@ -32,8 +32,6 @@ shared_is p q r (x ∷ xs) h s =
 pub observed_counts : ObservedCounts
 observed_counts =
     record {
-      contract = λ κs s p q r k e. e;
-      begin = λ κs q r e. let h : r ≡ first_remainder q = e in omega arith;
       as_defined = counts_are;
       from_any = λ p q r h seen passed s.
           rw (counts_are r seen passed) (counts_add_up.from_any p q r h (calls_of seen) (shared_is p q r seen passed s));

@@ -1,16 +1,14 @@
 -- A rate keeper as it is observed: of each call what it was given and what it returned. All that is
 -- known of a call is what the contract of `next_count` says, and of the remainder that a new keeper
--- begins with what that of `first_remainder` says. Assumes nothing.
+-- begins with what that of `first_remainder` says: `next_count_kept` and `first_remainder_kept`
+-- promise that of the real calls. What the toolchain reads off their contracts is stated in
+-- proofs/Contracts.antt, since no clause may cite it. Assumes nothing.
 use Rattle.std.specs.Prelude.{◌≡◌, true, List, [], ◌∷◌, ◌++◌, ℕ, ◌+◌, ◌*◌, ◌/◌, ◌<◌, length}
-use contract.Lifetimes.{Lfts}
 use Rattle.refusals.specs.Table.{accepts}
-use Rattle.gmp_settings.specs.declared.Settings.{Settings}
 use Rattle.gmp_keeper.specs.declared.KeeperResult.{KeeperResult}
 use Rattle.gmp_keeper.specs.Keeper.{answer_meaning, result_meaning, keeper_call, first_remainder}
 use Rattle.gmp_keeper.specs.Sum.{KeeperCall, given, counts_from, sum, rounded_total}
 use Rattle.gmp_keeper.specs.Nearest.{Nearest}
-use Rattle.gmp_keeper_call.proofs.first_remainder.Reads as first-reading
-use Rattle.gmp_keeper_call.proofs.next_count.Reads as next-reading
 
 -- a call with the remainder r: it returned the result, and kept its promise
 pub record KeeperSeen : Type 0 where
@@ -39,11 +37,6 @@ counts_of [] = []
 counts_of (x ∷ xs) = given (answer_meaning x.result.answer) ++ counts_of xs
 
 pub record ObservedCounts : Type 0 where
-  -- what the toolchain reads off the contract of `next_count` is its promise, and off that of
-  -- `first_remainder` what a new keeper begins with
-  pub contract : (κs : Lfts 0) (s : Settings) (p q r : ℕ) (k : KeeperResult) → next-reading.Learnt κs (s, (p, (q, (r, tt)))) k (s, (p, (q, (r, tt))))
-      → result_meaning k ≡ keeper_call s p q r
-  pub begin : (κs : Lfts 0) (q r : ℕ) → first-reading.Learnt κs (q, tt) r (q, tt) → r ≡ first_remainder q
   -- the counts are those of the definitions
   pub as_defined : (r : ℕ) (seen : List KeeperSeen) → Passed r seen → counts_of seen ≡ counts_from r (calls_of seen)
   -- from any remainder r below q, t counts add up to the whole part of (r + t × p) / q

@@ -1,5 +1,5 @@
 -- Observed calls of a keeper, worked: that such lists of calls there are. Assumes nothing.
-use Rattle.std.specs.Prelude.{◌≡◌, List, [], ◌∷◌, ℕ}
+use Rattle.std.specs.Prelude.{◌≡◌, List, [], ◌∷◌}
 use Rattle.gmp_settings.specs.Settings.{opu0}
 use Rattle.gmp_keeper.specs.Keeper.{first_remainder}
 use Rattle.gmp_keeper.specs.Sum.{KeeperCall}

@@ -3,6 +3,8 @@
 // on a new sink hands out only while the last type of three frames numbered 0 running, taken with
 // it on, is the expected one, and the sum of each port's tally and the card's total, each as the
 // contract of a function with an empty body.
+#![tactic(auto)]
+
 ghost use Rattle.claim_recovery.specs.Demand.{Demand3, RecoveryAlone, ThreeCome};
 ghost use Rattle.claim_recovery.specs.Mended.{CostsNothing, SinksOwn};
 ghost use Rattle.claim_recovery.specs.Swapped.{OnlyExpectedType};

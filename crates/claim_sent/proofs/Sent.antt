@@ -4,7 +4,6 @@ use mathlib.Core.List.{List, [], ◌∷◌}
 use Prim.Native.Nat.{ℕ, suc}
 use lib.ListN.{length, take}
 use Rattle.gmp_settings.specs.declared.Settings.{Settings}
-use Rattle.gmp_keeper.specs.Keeper.{first_remainder}
 use Rattle.gmp_keeper.specs.Sum.{sum, rounded_total}
 use Rattle.gmp_keeper.proofs.Sum.{counts_add_up}
 use Rattle.gmp_source.specs.declared.SourceState.{SourceState}

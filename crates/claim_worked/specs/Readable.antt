@@ -1,6 +1,6 @@
 -- The hypotheses of demand 3 can be met by every source run: any sink can read it from any frame m
 -- up to any later frame, told each frame's own number and any expected type. Assumes nothing.
-use Rattle.std.specs.Prelude.{◌≡◌, List, ℕ, ◌+◌, ◌≤◌, length}
+use Rattle.std.specs.Prelude.{List, ℕ, ◌+◌, ◌≤◌, length}
 use Rattle.gmp_settings.specs.declared.Settings.{Settings}
 use Rattle.gmp_source.specs.declared.SourceState.{SourceState}
 use Rattle.gmp_sink.specs.declared.SinkState.{SinkState}

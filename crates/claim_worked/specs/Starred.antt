@@ -1,6 +1,6 @@
 -- The starred cases of 01, "Worked frames", as one table; the last is that of 02, P7, in the place
 -- of 01's. Assumes nothing.
-use Rattle.std.specs.Prelude.{◌≡◌, Bool, cond, List, [], ◌∷◌, ◌++◌, ℕ, zero, suc}
+use Rattle.std.specs.Prelude.{◌≡◌, cond, List, [], ◌∷◌, ◌++◌, ℕ, zero, suc}
 use Rattle.gmp_settings.specs.declared.Settings.{Settings}
 use Rattle.gmp_settings.specs.Settings.{new_settings, opu0}
 use Rattle.gmp_standing.specs.declared.Count.TheVariants.{Known, Unknown}

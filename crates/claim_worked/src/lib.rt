@@ -3,6 +3,8 @@
 // with swapped cords, that nothing less than demand 3's numbers would do, and that they, mending
 // and the even placing do for what is promised. So the claims are neither empty nor more than they
 // need be, nor weaker than what they are used for.
+#![tactic(auto)]
+
 ghost use Rattle.claim_worked.specs.Starred.{AllHold, starred};
 ghost use Rattle.claim_worked.specs.Run.{WorkedRun};
 ghost use Rattle.claim_worked.specs.Customer.{CustomerRun};
