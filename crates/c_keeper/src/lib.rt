@@ -1,5 +1,7 @@
 // The rate keeper for C and Rust: numbers in, numbers out. All meaning is in the crates below; here
 // values are only converted.
+#![tactic(auto)]
+
 ghost use Rattle.std.specs.Prelude.{◌≡◌};
 ghost use Rattle.gmp_keeper.specs.Keeper.{keeper_call, first_remainder, result_meaning};
 ghost use Rattle.c_settings.specs.Numbers.{settings_from};
@@ -11,27 +13,20 @@ use gmp_refusal::Verdict;
 
 // The refusal's number or 0, the count or 0, and the remainder.
 #[repr(C)]
-#[derive(Drop)]
+#[derive(Clone, Copy)]
 pub struct KeeperReply {
     pub refusal: u32,
     pub count: u32,
     pub remainder: u32,
 }
 
-#[unsafe(no_mangle)]
-pub extern "C" fn odu0_keeper_new(q: u32) -> u32
+pub fn odu0_keeper_new(q: u32) -> u32
     ensures { result ≡ first_remainder q }
 {
     gmp_keeper_call::first_remainder(q)
 }
 
-#[unsafe(no_mangle)]
-pub extern "C" fn odu0_keeper_call(
-    settings: SettingsNumbers,
-    p: u32,
-    q: u32,
-    remainder: u32,
-) -> KeeperReply
+pub fn odu0_keeper_call(settings: SettingsNumbers, p: u32, q: u32, remainder: u32) -> KeeperReply
     ensures { result ≡ keeper_reply (keeper_call (settings_from settings) p q remainder) }
 {
     let card = c_settings::settings_from(settings);

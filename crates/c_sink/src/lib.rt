@@ -1,5 +1,7 @@
 // The sink with the card's tallies for C and Rust: numbers and buffers in, numbers out. All meaning
 // is in the crates below; here values are only converted.
+#![tactic(auto)]
+
 ghost use Rattle.std.specs.Prelude.{◌≡◌};
 ghost use Rattle.gmp_sink.specs.Sink.{new_sink, answer_meaning};
 ghost use Rattle.c_settings.specs.Numbers.{settings_from};
@@ -14,28 +16,26 @@ use gmp_sink::{SinkAnswer, SinkResult, SinkState};
 use gmp_standing::Count;
 
 // A flag, 0 for none, beside the number.
-#[derive(Drop)]
+#[derive(Clone, Copy)]
 struct Flagged {
     flag: u32,
     value: u32,
 }
 
 // A flag or how often, 0 for none, beside a payload type.
-#[derive(Drop)]
+#[derive(Clone, Copy)]
 struct TypeNumbers {
     number: u32,
     payload_type: u8,
 }
 
-#[unsafe(no_mangle)]
-pub extern "C" fn odu0_sink_new() -> SinkNumbers
+pub fn odu0_sink_new() -> SinkNumbers
     ensures { result ≡ state_numbers new_sink }
 {
     state_numbers(gmp_sink::new_sink())
 }
 
-#[unsafe(no_mangle)]
-pub extern "C" fn odu0_sink_call(
+pub fn odu0_sink_call(
     settings: SettingsNumbers,
     state: SinkNumbers,
     expected: Expected,

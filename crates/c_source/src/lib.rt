@@ -1,5 +1,7 @@
 // The source for C and Rust: numbers and buffers in, numbers out. All meaning is in the crates
 // below; here values are only converted.
+#![tactic(auto)]
+
 ghost use Rattle.std.specs.Prelude.{◌≡◌};
 ghost use Rattle.gmp_source.specs.Source.{new_source, start_meaning, source_frame};
 ghost use Rattle.c_settings.specs.Numbers.{settings_from};
@@ -11,26 +13,20 @@ use gmp_source::{SourceStart, SourceState};
 
 // The refusal's number or 0, and the source's state.
 #[repr(C)]
-#[derive(Drop)]
+#[derive(Clone, Copy)]
 pub struct SourceReply {
     pub refusal: u32,
     pub state: SourceState,
 }
 
-#[unsafe(no_mangle)]
-pub extern "C" fn odu0_source_new(
-    settings: SettingsNumbers,
-    first: u32,
-    payload_type: u8,
-) -> SourceReply
+pub fn odu0_source_new(settings: SettingsNumbers, first: u32, payload_type: u8) -> SourceReply
     ensures { result ≡ start_reply (new_source (settings_from settings) first payload_type) }
 {
     let card = c_settings::settings_from(settings);
     start_reply(gmp_source::new_source(card, first, payload_type))
 }
 
-#[unsafe(no_mangle)]
-pub extern "C" fn odu0_source_call(
+pub fn odu0_source_call(
     settings: SettingsNumbers,
     state: SourceState,
     next: u32,

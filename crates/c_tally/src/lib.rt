@@ -1,12 +1,13 @@
 // The card's tallies for C and Rust, as 24 numbers, and the card's total.
+#![tactic(auto)]
+
 ghost use Rattle.std.specs.Prelude.{◌≡◌, ◌<◌};
 ghost use Rattle.card_tally.specs.Ports.{total_of};
 ghost use Rattle.c_sink_numbers.specs.Numbers.{tally_at, tallies_from, tallies_numbers};
 
 use card_tally::{Tallies, Tally, Total};
 
-#[unsafe(no_mangle)]
-pub extern "C" fn odu0_card_total(tallies: &[u32; 24]) -> Total
+pub fn odu0_card_total(tallies: &[u32; 24]) -> Total
     ensures { result ≡ total_of (tallies_from tallies.now) }
 {
     card_tally::card_total(tallies_from(*tallies))
