@@ -1,19 +1,22 @@
 // Maps standard input, a stream of client bytes, into OPU0 frames on standard output, at the rate
 // p / q of client bytes a frame. The two numbers are the program's arguments; with none the rate is
 // 18,671,875 / 1,296.
+#![tactic(auto)]
+
 ghost use Rattle.std.specs.Prelude.{◌≡◌, length};
 ghost use Rattle.program_stream.specs.Gather.{held_bytes, Has, Writes};
 ghost use Rattle.program_map.specs.Frames.{Ready};
 ghost use Rattle.odu0map.specs.Mapping.{frames_after, Goes, GoesOn, MapsLoads, Counts};
 
 use gmp_refusal::{NAME_LENGTHS, NAMES, Refusal, Verdict};
-use libc::STDERR_FILENO;
 use program_decimal::Number;
 use program_map::{Mapper, Rate, Start};
-use program_stream::{Done, End, Held, Stop, Supplied};
+use program_stream::{Done, End, Held, Stop, Streams, Supplied};
+use std::env::Env;
+use std::io::Write;
 
 // The rate that the arguments ask for, or that they are wrong.
-#[derive(Drop)]
+#[derive(Clone, Copy)]
 enum Asked {
     At(Rate),
     Wrong,
@@ -30,7 +33,7 @@ struct Totals {
 
 // What some loads came to: the mapper after them, the number of their frames, and the client bytes
 // that these carry.
-#[derive(Drop)]
+#[derive(Clone, Copy)]
 struct Batch {
     mapper: Mapper,
     frames: usize,
@@ -45,39 +48,48 @@ enum Next {
 }
 
 // Maps the input at the rate asked for, or says why it cannot.
-fn main() {
-    let asked = asked_rate();
+fn main(rt: HostRuntime) {
+    let mut streams = Streams {
+        input: rt.stdin(),
+        output: rt.stdout(),
+        error: rt.stderr(),
+    };
+    let asked = asked_rate(&rt);
     let Asked::At(rate) = asked else {
-        io::write_all(
-            STDERR_FILENO,
+        program_say::tell(
+            &mut streams.error,
             b"odu0map: the arguments are not two decimal numbers of 32 bits\n",
         );
-        show_usage();
+        show_usage(&mut streams.error);
         return;
     };
     let start = program_map::new_mapper(rate);
     match start {
-        Start::New(mapper) => show_totals(map_all(rate, mapper)),
-        Start::Refused(refusal) => show_refusal(refusal),
+        Start::New(mapper) => {
+            let totals = map_all(&mut streams, rate, mapper);
+            show_totals(&mut streams.error, &totals);
+        }
+        Start::Refused(refusal) => show_refusal(&mut streams.error, refusal),
     }
 }
 
 // The rate that the arguments give, or the usual one where there are none.
-fn asked_rate() -> Asked {
-    if os::arg_count() < 2 {
+fn asked_rate(env: &impl Env) -> Asked {
+    let given = program_say::argument_count(env);
+    if given < 2 {
         return Asked::At(Rate {
             p: 18671875,
             q: 1296,
         });
     }
-    if os::arg_count() != 3 {
+    if given != 3 {
         return Asked::Wrong;
     }
-    let first = program_say::argument(1);
+    let first = program_say::argument(env, 1);
     let Number::Value(p) = first else {
         return Asked::Wrong;
     };
-    let second = program_say::argument(2);
+    let second = program_say::argument(env, 2);
     let Number::Value(q) = second else {
         return Asked::Wrong;
     };
@@ -85,19 +97,25 @@ fn asked_rate() -> Asked {
 }
 
 // Maps load after load, with room for 16 of the largest loads and for their frames.
-fn map_all(rate: Rate, new: Mapper) -> Totals
+fn map_all(streams: &mut Streams, rate: Rate, new: Mapper) -> Totals
     requires { Ready rate new }
     ensures { Counts rate new result }
 {
     let mut client = [0u8; 230560];
     let mut frames = [0u8; 243840];
-    map_stream(rate, new, &mut client, &mut frames)
+    map_stream(streams, rate, new, &mut client, &mut frames)
 }
 
 // Maps batch after batch, each by the mapper that the one before it left, until there is a stop.
 // Where a batch cannot be written the totals are those of the batches before it. A proved loop has
 // to end: this one does where the number of frames could grow past 64 bits, which no input reaches.
-fn map_stream(rate: Rate, new: Mapper, client: &mut [u8], frames: &mut [u8]) -> Totals
+fn map_stream(
+    streams: &mut Streams,
+    rate: Rate,
+    new: Mapper,
+    client: &mut [u8],
+    frames: &mut [u8],
+) -> Totals
     requires { Ready rate new × (length client.old ≡ 230560) × (length frames.old ≡ 243840) }
     ensures { Counts rate new result }
 {
@@ -106,13 +124,13 @@ fn map_stream(rate: Rate, new: Mapper, client: &mut [u8], frames: &mut [u8]) -> 
     let mut written: u64 = 0;
     let mut bytes: u64 = 0;
     while written < u64::MAX - 16 {
-        let next = map_next(rate, mapper, held, client, frames);
+        let next = map_next(streams, rate, mapper, held, client, frames);
         match next {
             Next::From(batch, behind) => {
                 mapper = batch.mapper;
                 held = behind;
                 written += batch.frames as u64;
-                bytes = std::num::wrapping_add_u64(bytes, batch.bytes as u64);
+                bytes = bytes.wrapping_add(batch.bytes as u64);
             }
             Next::Stopped(stop) => {
                 return Totals {
@@ -131,20 +149,34 @@ fn map_stream(rate: Rate, new: Mapper, client: &mut [u8], frames: &mut [u8]) -> 
 }
 
 // Reads on until a whole load is held, and maps all that are.
-fn map_next(rate: Rate, mapper: Mapper, held: Held, client: &mut [u8], frames: &mut [u8]) -> Next
+fn map_next(
+    streams: &mut Streams,
+    rate: Rate,
+    mapper: Mapper,
+    held: Held,
+    client: &mut [u8],
+    frames: &mut [u8],
+) -> Next
     requires { Ready rate mapper × (length client.old ≡ 230560) × (length frames.old ≡ 243840) }
     ensures { GoesOn rate mapper (held_bytes held client.old) result client.new }
 {
     let least = mapper.source.count as usize;
-    let got = program_stream::supply(client, held, least, b"odu0map: standard input");
+    let got = program_stream::supply(streams, client, held, least, b"odu0map: standard input");
     match got {
-        Supplied::Enough(more) => map_held(rate, mapper, more, client, frames),
+        Supplied::Enough(more) => map_held(streams, rate, mapper, more, client, frames),
         Supplied::Stopped(stop) => Next::Stopped(stop),
     }
 }
 
 // Maps the loads that are held and writes their frames. Where that fails nothing more is mapped.
-fn map_held(rate: Rate, mapper: Mapper, held: Held, client: &[u8], frames: &mut [u8]) -> Next
+fn map_held(
+    streams: &mut Streams,
+    rate: Rate,
+    mapper: Mapper,
+    held: Held,
+    client: &[u8],
+    frames: &mut [u8],
+) -> Next
     requires { Ready rate mapper × Has mapper.source.count held client.now × (length client.now ≡ 230560) × (length frames.old ≡ 243840) }
     ensures { Goes rate mapper (held_bytes held client.now) result client.now }
 {
@@ -153,7 +185,14 @@ fn map_held(rate: Rate, mapper: Mapper, held: Held, client: &[u8], frames: &mut 
     let loads = &client[at..end];
     let batch = map_loads(rate, mapper, loads, frames);
     let length = 15240 * batch.frames;
-    let done = write_frames(rate, mapper, loads, batch.frames, &frames[..length]);
+    let done = write_frames(
+        streams,
+        rate,
+        mapper,
+        loads,
+        batch.frames,
+        &frames[..length],
+    );
     match done {
         Done::Whole => Next::From(
             batch,
@@ -167,11 +206,18 @@ fn map_held(rate: Rate, mapper: Mapper, held: Held, client: &[u8], frames: &mut 
 }
 
 // Writes the frames of so many loads, all of them and in order, or says why that failed.
-fn write_frames(rate: Rate, mapper: Mapper, loads: &[u8], number: usize, frames: &[u8]) -> Done
+fn write_frames(
+    streams: &mut Streams,
+    rate: Rate,
+    mapper: Mapper,
+    loads: &[u8],
+    number: usize,
+    frames: &[u8],
+) -> Done
     requires { frames.now ≡ frames_after rate mapper loads.now number }
     ensures { Writes result }
 {
-    program_stream::write_out(frames, b"odu0map: standard output")
+    program_stream::write_out(streams, frames, b"odu0map: standard output")
 }
 
 // Maps the whole loads at the start of the client bytes, at most 16, each by the mapper that the
@@ -209,38 +255,38 @@ fn map_loads(rate: Rate, first: Mapper, client: &[u8], frames: &mut [u8]) -> Bat
 
 // Says what is left where the input ended, how many frames the writes had that were done, and how
 // many client bytes they carry.
-fn show_totals(totals: Totals) {
-    let end = totals.end;
-    program_stream::say_left(b"odu0map: ", end);
-    program_say::say(b"odu0map: frames ", totals.frames);
-    program_say::say_line(b", bytes ", totals.bytes);
+fn show_totals(error: &mut impl Write, totals: &Totals) {
+    program_stream::say_left(error, b"odu0map: ", &totals.end);
+    program_say::say(error, b"odu0map: frames ", totals.frames);
+    program_say::say_line(error, b", bytes ", totals.bytes);
 }
 
 // Says why there is no mapper, by the name and the number of the refusal.
-fn show_refusal(refusal: Refusal) {
-    io::write_all(STDERR_FILENO, b"odu0map: refused, ");
-    show_name(refusal);
+fn show_refusal(error: &mut impl Write, refusal: Refusal) {
+    program_say::tell(error, b"odu0map: refused, ");
+    show_name(error, refusal);
     program_say::say(
+        error,
         b" (number ",
         gmp_refusal::refusal_number(Verdict::Refused(refusal)) as u64,
     );
-    io::write_all(STDERR_FILENO, b")\n");
-    show_usage();
+    program_say::tell(error, b")\n");
+    show_usage(error);
 }
 
 // Writes the name of a refusal to standard error.
-fn show_name(refusal: Refusal) {
+fn show_name(error: &mut impl Write, refusal: Refusal) {
     let place = gmp_refusal::refusal_place(refusal) as usize;
     let names: &[u8] = &NAMES;
     let lengths: &[usize] = &NAME_LENGTHS;
     let name = program_name::name_of(names, lengths, place);
-    io::write_all(STDERR_FILENO, name);
+    program_say::tell(error, name);
 }
 
 // Says how the program is called.
-fn show_usage() {
-    io::write_all(
-        STDERR_FILENO,
+fn show_usage(error: &mut impl Write) {
+    program_say::tell(
+        error,
         b"usage: odu0map [P Q], client bytes a frame as P / Q: Q from 1 to 65535, P / Q from 14405 to 14410\n",
     );
 }

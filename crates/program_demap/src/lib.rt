@@ -1,5 +1,7 @@
 // A frame of OPU0 to the sink, on one port with its tally, as the program odu0demap takes it, and
 // what it came to.
+#![tactic(auto)]
+
 ghost use Rattle.std.specs.Prelude.{◌≡◌, length};
 ghost use Rattle.program_demap.specs.Frames.{new_demapper, Takes};
 
@@ -9,7 +11,7 @@ use gmp_sink::{SinkAnswer, SinkState};
 use gmp_standing::Standing;
 
 // What the arguments ask for: mending, the type check, and the type expected.
-#[derive(Drop)]
+#[derive(Clone, Copy)]
 pub struct Wanted {
     pub mending: bool,
     pub type_check: bool,
@@ -18,7 +20,7 @@ pub struct Wanted {
 
 // The sink's state, its port's tally, the number of the last standing, 0 before the first frame,
 // and the multiframe number of the next frame.
-#[derive(Drop)]
+#[derive(Clone, Copy)]
 pub struct Demapper {
     pub state: SinkState,
     pub tally: Tally,
@@ -28,7 +30,7 @@ pub struct Demapper {
 
 // What a frame came to: the bytes handed out, its standing, whether a wrong control bit was mended,
 // and the demapper after it.
-#[derive(Drop)]
+#[derive(Clone, Copy)]
 pub struct Taken {
     pub handed: u32,
     pub standing: Standing,

@@ -1,4 +1,6 @@
 // Moves a part of a block to its front.
+#![tactic(auto)]
+
 ghost use Rattle.program_keep.specs.Keep.{Keeps};
 
 // Moves what a block has from place `at` up to place `end` to its front, and gives the number.

@@ -1,4 +1,6 @@
 // The line that odu0demap says of a frame, as much of it as has room.
+#![tactic(auto)]
+
 ghost use Rattle.io.specs.Counts.{IsPrefixLen};
 
 use gmp_standing::{Count, NAME_LENGTHS, NAMES, Standing};

@@ -1,5 +1,7 @@
 // A load of OPU0 to the source, at the count that the rate keeper gives, as the program odu0map
 // maps it.
+#![tactic(auto)]
+
 ghost use Rattle.std.specs.Prelude.{◌≡◌, length};
 ghost use Rattle.program_map.specs.Frames.{start_meaning, start_answer, Ready, Maps};
 
@@ -8,21 +10,21 @@ use gmp_refusal::Refusal;
 use gmp_source::{SourceStart, SourceState};
 
 // The rate p / q.
-#[derive(Drop)]
+#[derive(Clone, Copy)]
 pub struct Rate {
     pub p: u32,
     pub q: u32,
 }
 
 // The source's state, and the rate keeper's remainder.
-#[derive(Drop)]
+#[derive(Clone, Copy)]
 pub struct Mapper {
     pub source: SourceState,
     pub remainder: u32,
 }
 
 // A new mapper, or why there is none.
-#[derive(Drop)]
+#[derive(Clone, Copy)]
 pub enum Start {
     New(Mapper),
     Refused(Refusal),

@@ -1,16 +1,11 @@
 -- Bytes that are read behind those that were moved to the front of a block. Assumes nothing.
 use mathlib.Core.Path.{◌≡◌, refl, sym, ap, subst, ◌∙◌}
 use mathlib.Core.Logic.{◌⊎◌, ⊎_elim}
-use mathlib.Core.Bool.{true, false, true≢false, false≢true}
 use mathlib.Core.List.{List, ◌++◌}
 use Prim.Native.Nat.{ℕ, ◌+◌, ◌-◌, ◌≤◌, ◌<◌}
 use native.Mathlib.Nat.{add-zero, sub-zero}
 use native.Mathlib.Omega.{arith}
-use lib.IntN.{ℤ, pos, negsuc}
-use lib.Signed.{lt_z, le_z, ◌<ℤ◌}
-use Rattle.io.specs.Counts.{clamp_len}
 use lib.ListN.{length, take, drop, length-drop, length-append}
-use borrow.Author.Tests.{ltb-true, leb-true}
 use borrow.Rule.Slice.PartMut.{post_of, put_mid, take_put}
 use lib.Seq.{take-add, drop-drop, drop_at, take-append-add, take-append-le, length-take-le, take-length, take-take, take_at}
 use Rattle.program_stream.specs.declared.Why.{Why}
@@ -76,18 +71,6 @@ ended_stops start have block end r k new l least h s e =
 
 pub unread_stops : (old : List ℕ) (least : ℕ) (after : List ℕ) (s : Stop) → s.why ≡ Unread → StopsReading old least s.why after
 unread_stops old least after s e = subst (λ (w : Why). StopsReading old least w after) (sym e) tt
-
--- a read that gave less than a number which is at most 0 failed
-pub gave_fewer : (got bound : ℤ) → lt_z got bound ≡ true → le_z bound (pos 0) ≡ true → got <ℤ pos 0
-gave_fewer (pos k) (pos b) h l = absurd (omega (arith, ltb-true k b h, leb-true b 0 l))
-gave_fewer (pos k) (negsuc b) h l = absurd (false≢true h)
-gave_fewer (negsuc k) bound h l = record { lt = tt }
-
--- one that had room and gave none, and no less than a number which is at least 0, did not fail
-pub gave_none : (got : ℤ) (most n : ℕ) (bound : ℤ) → lt_z got bound ≡ false → le_z (pos 0) bound ≡ true → n ≡ clamp_len got most → n ≡ 0 → 0 < most → got ≡ pos 0
-gave_none (pos k) most n bound h l e z room = let none : k ≡ 0 = omega (arith, e, z, room) in ap pos none
-gave_none (negsuc k) most n (pos b) h l e z room = absurd (true≢false h)
-gave_none (negsuc k) most n (negsuc b) h l e z room = absurd (false≢true l)
 
 -- what is held already, where it is enough
 pub held_on : (block : List ℕ) (h : Held) (least : ℕ) → h.at ≤ h.end → h.end ≤ length block → least ≤ h.end - h.at

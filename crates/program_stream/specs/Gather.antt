@@ -1,7 +1,7 @@
 -- What reading and writing promise, and how a run ends. Which bytes are read no contract can say;
 -- that those which were held already are not lost, doubled or moved past another is said here, and
 -- that a program stops for no reason but those of `Why`. Assumes nothing.
-use Rattle.std.specs.Prelude.{◌≡◌, List, [], ◌++◌, ℕ, ◌-◌, ◌≤◌, ◌<◌, length, take, drop}
+use Rattle.std.specs.Prelude.{◌≡◌, List, [], ℕ, ◌-◌, ◌≤◌, ◌<◌, length, take}
 use Rattle.program_keep.specs.Keep.{between}
 use Rattle.program_stream.specs.declared.Why.{Why}
 use Rattle.program_stream.specs.declared.Why.TheVariants.{Ended, Unread, Unwritten}

@@ -1,9 +1,22 @@
 // What the programs share: bytes from standard input, whole blocks or as many as there are, bytes
 // to standard output, and why a program stops.
-ghost use Rattle.std.specs.Prelude.{◌≡◌, true, false, ◌+◌, ◌≤◌, ◌<◌, pos, ◌<ℤ◌, length};
+#![tactic(auto)]
+
+ghost use Rattle.std.specs.Prelude.{◌≡◌, ◌+◌, ◌≤◌, ◌<◌, length, IsOk, IsErr};
 ghost use Rattle.program_stream.specs.Gather.{Gathers, Fills, Supplies, Writes, left_of};
 
-use libc::{STDERR_FILENO, STDIN_FILENO, STDOUT_FILENO};
+use std::io;
+use std::io::{Read, Write};
+use std::rt::{Stderr, Stdin, Stdout};
+
+// Where a program reads, where it writes, and where it says why that failed: standard input, output
+// and error, and nothing else, since only the runtime makes these.
+#[derive(Clone, Copy)]
+pub struct Streams {
+    pub input: Stdin,
+    pub output: Stdout,
+    pub error: Stderr,
+}
 
 // Why a program stops: the input ended and so many bytes of it are left, fewer than were asked for,
 // a read failed, or a write did.
@@ -36,7 +49,7 @@ pub enum Done {
 }
 
 // The bytes of a block that were read and not yet taken: from place `at` up to place `end`.
-#[derive(Drop)]
+#[derive(Clone, Copy)]
 pub struct Held {
     pub at: usize,
     pub end: usize,
@@ -51,11 +64,11 @@ pub enum Supplied {
 
 // Fills a block from standard input, by as many reads as it takes. The name is said where one
 // fails.
-pub fn gather(block: &mut [u8], name: &[u8]) -> Done
+pub fn gather(streams: &mut Streams, block: &mut [u8], name: &[u8]) -> Done
     ensures { Gathers block.old result block.new }
 {
     let least = block.len();
-    let got = read_behind(block, 0, least, name);
+    let got = read_behind(streams, block, 0, least, name);
     match got {
         Supplied::Enough(_) => Done::Whole,
         Supplied::Stopped(stop) => Done::Stopped(stop),
@@ -67,7 +80,13 @@ pub fn gather(block: &mut [u8], name: &[u8]) -> Done
 // end, and another one only while that is still too few. Where the block has no room for so many, a
 // whole block is enough. Of places outside the block nothing is held. The name is said where a read
 // fails.
-pub fn supply(block: &mut [u8], held: Held, least: usize, name: &[u8]) -> Supplied
+pub fn supply(
+    streams: &mut Streams,
+    block: &mut [u8],
+    held: Held,
+    least: usize,
+    name: &[u8],
+) -> Supplied
     ensures { Supplies block.old held least result block.new }
 {
     let at = held.at;
@@ -80,12 +99,18 @@ pub fn supply(block: &mut [u8], held: Held, least: usize, name: &[u8]) -> Suppli
         }
     }
     let kept = program_keep::keep(block, at, end);
-    read_behind(block, kept, least, name)
+    read_behind(streams, block, kept, least, name)
 }
 
 // Reads behind the first `have` bytes of a block until there are `least` of them, the block is full
 // or no more come.
-fn read_behind(block: &mut [u8], have: usize, least: usize, name: &[u8]) -> Supplied
+fn read_behind(
+    streams: &mut Streams,
+    block: &mut [u8],
+    have: usize,
+    least: usize,
+    name: &[u8],
+) -> Supplied
     requires { have ≤ length block.old }
     ensures { Fills block.old have least result block.new }
 {
@@ -96,23 +121,20 @@ fn read_behind(block: &mut [u8], have: usize, least: usize, name: &[u8]) -> Supp
             return Supplied::Enough(Held { at: 0, end: end });
         }
         let part = &mut block[end..];
-        let got = libc::read(STDIN_FILENO, part);
-        if got < 0 {
-            return Supplied::Stopped(unread(got, name));
+        let got = streams.input.read(part);
+        match got {
+            Ok(0) => return Supplied::Stopped(ended(size, part, got, end)),
+            Ok(n) => end += n,
+            Err(_) => return Supplied::Stopped(unread(&mut streams.error, got, name)),
         }
-        let n = io::count(got, part);
-        if n == 0 {
-            return Supplied::Stopped(ended(size, part, got, end));
-        }
-        end += n;
     }
     Supplied::Enough(Held { at: 0, end: end })
 }
 
 // The input ended and so many bytes of it are left: a read that had room gave none, into the part
 // behind them of a block of this size.
-fn ended(size: usize, part: &[u8], got: isize, left: usize) -> Stop
-    requires { (0 < length part.now) × (left + length part.now ≡ size) × (got ≡ pos 0) }
+fn ended(size: usize, part: &[u8], got: io::Result<usize>, left: usize) -> Stop
+    requires { (0 < length part.now) × (left + length part.now ≡ size) × (got ≡ Ok 0) }
     ensures { result.why ≡ Why.Ended left }
 {
     Stop {
@@ -121,53 +143,52 @@ fn ended(size: usize, part: &[u8], got: isize, left: usize) -> Stop
 }
 
 // A read failed: says so, and the system's reason.
-fn unread(got: isize, name: &[u8]) -> Stop
-    requires { got <ℤ pos 0 }
+fn unread(error: &mut impl Write, got: io::Result<usize>, name: &[u8]) -> Stop
+    requires { IsErr got }
     ensures { result.why ≡ Why.Unread }
 {
-    os::fail(name);
+    program_say::say_failed(error, name, got.unwrap_err());
     Stop { why: Why::Unread }
 }
 
 // Writes bytes to standard output, all of them, or says by this name that it failed.
-pub fn write_out(bytes: &[u8], name: &[u8]) -> Done
+pub fn write_out(streams: &mut Streams, bytes: &[u8], name: &[u8]) -> Done
     ensures { Writes result }
 {
-    let is_written = io::write_all(STDOUT_FILENO, bytes);
-    if is_written {
-        return written(is_written);
+    let put = streams.output.write_all(bytes);
+    if put.is_ok() {
+        return written(put);
     }
-    Done::Stopped(unwritten(is_written, name))
+    Done::Stopped(unwritten(&mut streams.error, put, name))
 }
 
 // All was written.
-fn written(is_written: bool) -> Done
-    requires { is_written ≡ true }
+fn written(put: io::Result<()>) -> Done
+    requires { IsOk put }
     ensures { result ≡ Done.Whole }
 {
     Done::Whole
 }
 
 // A write failed: says so, and the system's reason.
-fn unwritten(is_written: bool, name: &[u8]) -> Stop
-    requires { is_written ≡ false }
+fn unwritten(error: &mut impl Write, put: io::Result<()>, name: &[u8]) -> Stop
+    requires { IsErr put }
     ensures { result.why ≡ Why.Unwritten }
 {
-    os::fail(name);
+    program_say::say_failed(error, name, put.unwrap_err());
     Stop {
         why: Why::Unwritten,
     }
 }
 
 // How many bytes were left where the input ended, and 0 where the run ended otherwise.
-pub fn left(end: End) -> usize
-    ensures { result ≡ left_of end }
+pub fn left(end: &End) -> usize
+    ensures { result ≡ left_of end.now }
 {
     let End::Stopped(stop) = end else {
         return 0;
     };
-    let why = stop.why;
-    match why {
+    match stop.why {
         Why::Ended(number) => number,
         Why::Unread => 0,
         Why::Unwritten => 0,
@@ -175,18 +196,18 @@ pub fn left(end: End) -> usize
 }
 
 // Says how many bytes were left where the input ended within a block, if there were any.
-pub fn say_left(name: &[u8], end: End) {
+pub fn say_left(error: &mut impl Write, name: &[u8], end: &End) {
     let number = left(end);
     if number == 0 {
         return;
     }
-    say_rest(name, end, number);
+    say_rest(error, name, end, number);
 }
 
 // Says this number as that of the bytes left.
-fn say_rest(name: &[u8], end: End, number: usize)
-    requires { number ≡ left_of end }
+fn say_rest(error: &mut impl Write, name: &[u8], end: &End, number: usize)
+    requires { number ≡ left_of end.now }
 {
-    program_say::say(name, number as u64);
-    io::write_all(STDERR_FILENO, b" bytes left at the end\n");
+    program_say::say(error, name, number as u64);
+    program_say::tell(error, b" bytes left at the end\n");
 }

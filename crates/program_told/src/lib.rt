@@ -1,4 +1,6 @@
 // Whether odu0demap has anything to tell of a frame that it took.
+#![tactic(auto)]
+
 ghost use Rattle.std.specs.Prelude.{◌≡◌};
 ghost use Rattle.gmp_standing.specs.Standing.{standing_meaning};
 ghost use Rattle.program_told.specs.Told.{same_count, is_same, has_no_line, same_type, nothing_to_tell_by};

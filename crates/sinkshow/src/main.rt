@@ -1,6 +1,8 @@
 // The program of 01: it shows what a new sink makes of the 16-byte frames on standard input (K = 2,
 // window 0 to 8), a line for each frame, and a last line where the input ends within one. Every
 // byte of a line is promised by the functions that make it.
+#![tactic(auto)]
+
 ghost use Rattle.std.specs.Prelude.{◌≡◌, ◌+◌, ◌≤◌, ◌<◌, length};
 ghost use Rattle.gmp_standing.specs.Standing.{standing_meaning};
 ghost use Rattle.program_stream.specs.Gather.{Writes, left_of};
@@ -10,17 +12,17 @@ ghost use Rattle.sinkshow.specs.Show.{new_run, Puts, Shows, Goes, GoesOn, ShowsA
 use gmp_payload_type::Expected;
 use gmp_sink::{SinkAnswer, SinkState};
 use gmp_standing::{Count, NAME_LENGTHS, NAMES, Standing};
-use program_stream::{Done, End, Stop};
+use program_stream::{Done, End, Stop, Streams};
 
 // How far a run has come: the sink's state, and how many frames it has taken.
-#[derive(Drop)]
+#[derive(Clone, Copy)]
 struct Run {
     state: SinkState,
     frames: u64,
 }
 
 // The length of a frame's line, and the run after the frame.
-#[derive(Drop)]
+#[derive(Clone, Copy)]
 struct Shown {
     length: usize,
     after: Run,
@@ -41,20 +43,24 @@ struct All {
 }
 
 // Shows all frames of the input, and what is left where it ended.
-fn main() {
-    let all = show_all();
-    let end = all.end;
-    show_rest(end);
+fn main(rt: HostRuntime) {
+    let mut streams = Streams {
+        input: rt.stdin(),
+        output: rt.stdout(),
+        error: rt.stderr(),
+    };
+    let all = show_all(&mut streams);
+    show_rest(&mut streams, &all.end);
 }
 
 // Shows frame after frame from a new run on until there is a stop, and gives the run at its end. A
 // proved loop has to end: this one does at the largest frame number, which no run reaches.
-fn show_all() -> All
+fn show_all(streams: &mut Streams) -> All
     ensures { ShowsAll result }
 {
     let mut run = new_run();
     while run.frames < u64::MAX {
-        let next = show_next(run);
+        let next = show_next(streams, run);
         match next {
             Next::From(after) => {
                 run = after;
@@ -85,21 +91,21 @@ fn new_run() -> Run
 }
 
 // Reads the next frame and shows it.
-fn show_next(run: Run) -> Next
+fn show_next(streams: &mut Streams, run: Run) -> Next
     requires { run.frames < 18446744073709551615 }
     ensures { GoesOn run result }
 {
     let mut frame = [0u8; 16];
-    let got = program_stream::gather(&mut frame, b"sinkshow: standard input");
+    let got = program_stream::gather(streams, &mut frame, b"sinkshow: standard input");
     match got {
-        Done::Whole => show_frame(run, &frame),
+        Done::Whole => show_frame(streams, run, &frame),
         Done::Stopped(stop) => Next::Stopped(stop),
     }
 }
 
 // Takes a frame and writes its line. Where that fails nothing more is shown. Three numbers of up to
 // 20 digits, a name of up to 8 letters and 4 bytes between and after them are 72 bytes.
-fn show_frame(run: Run, frame: &[u8]) -> Next
+fn show_frame(streams: &mut Streams, run: Run, frame: &[u8]) -> Next
     requires { (length frame.now ≡ 16) × (run.frames < 18446744073709551615) }
     ensures { Goes run frame.now result }
 {
@@ -107,7 +113,7 @@ fn show_frame(run: Run, frame: &[u8]) -> Next
     let shown = take_frame(run, frame, &mut line);
     let length = shown.length;
     let after = shown.after;
-    let done = write_line(&line[..length]);
+    let done = write_line(streams, &line[..length]);
     match done {
         Done::Whole => Next::From(after),
         Done::Stopped(stop) => Next::Stopped(stop),
@@ -115,25 +121,25 @@ fn show_frame(run: Run, frame: &[u8]) -> Next
 }
 
 // Writes the last line, where a byte or more is left.
-fn show_rest(end: End) {
+fn show_rest(streams: &mut Streams, end: &End) {
     let left = program_stream::left(end);
     let mut line = [0u8; 72];
     let length = put_rest(&mut line, left);
-    write_rest(end, &line[..length]);
+    write_rest(streams, end, &line[..length]);
 }
 
 // Writes the line of the bytes that are left at this end, all of it.
-fn write_rest(end: End, line: &[u8])
-    requires { line.now ≡ rest_text (left_of end) }
+fn write_rest(streams: &mut Streams, end: &End, line: &[u8])
+    requires { line.now ≡ rest_text (left_of end.now) }
 {
-    write_line(line);
+    write_line(streams, line);
 }
 
 // Writes a line to standard output.
-fn write_line(line: &[u8]) -> Done
+fn write_line(streams: &mut Streams, line: &[u8]) -> Done
     ensures { Writes result }
 {
-    program_stream::write_out(line, b"sinkshow: standard output")
+    program_stream::write_out(streams, line, b"sinkshow: standard output")
 }
 
 // Hands a frame to the sink, as one of port 1, and makes its line. The payload type is not checked,
@@ -257,5 +263,7 @@ fn put(line: &mut [u8], at: usize, text: &[u8]) -> usize
     requires { at + length text.now ≤ length line.old }
     ensures { Puts line.old at text.now result line.new }
 {
-    at + bytes::copy(text, &mut line[at..])
+    let end = at + text.len();
+    line[at..end].copy_from_slice(text);
+    end
 }

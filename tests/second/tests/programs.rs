@@ -1,5 +1,5 @@
 //! The programs on many inputs, against the second implementation, and where reading or writing
-//! fails. `rt check` or `rt ci` leaves them in target/bin.
+//! fails. `.ci/build NAME` puts them in target/bin.
 
 #[path = "programs/arguments.rs"]
 mod arguments;

@@ -12,13 +12,12 @@ use std::os::unix::net::UnixStream;
 use std::os::unix::process::ExitStatusExt;
 use std::process::{self, Command, ExitStatus, Stdio};
 
-// The system's numbers of these errors and of this signal.
+// The system's numbers of these errors.
 const EISDIR: i32 = 21;
 const EFBIG: i32 = 27;
 const ENOSPC: i32 = 28;
 const EPIPE: i32 = 32;
 const ECONNRESET: i32 = 104;
-const SIGPIPE: i32 = 13;
 
 /// A program, and a run of it that writes many times.
 struct Case {
@@ -249,7 +248,7 @@ fn an_input_that_fails_later() {
     }
 }
 
-/// Where the signal is ignored the write fails, and the program says so.
+/// The signal is ignored, so the write fails, and the program says so.
 #[test]
 fn an_output_closed_at_once() {
     for case in cases() {
@@ -301,16 +300,15 @@ fn an_output_closed_within_many_frames() {
     }
 }
 
-/// Where the signal is not ignored the program ends by it, and says no more.
+/// Where nothing ignored the signal before, the program does itself, and says the same.
 #[test]
-fn an_output_closed_ends_it_by_the_signal() {
+fn an_output_closed_does_not_end_it_by_the_signal() {
     for case in cases() {
-        for length in [0, case.first.1] {
+        for (length, totals) in [(0, case.totals[1]), (case.first.1, case.totals[2])] {
             let fed = if length == 0 { [vec![], case.input.clone()] } else { case.halves() };
-            let (status, written) = run_until_closed(length, case.program(), fed);
-            let wanted = Written { out: case.out[..length].to_vec(), said: case.lines.into() };
-            assert_eq!(status.signal(), Some(SIGPIPE), "{}: {}", case.name, written.said);
-            assert!(written == wanted, "{}: {}", case.name, written.said);
+            let said = [case.lines, &case.failed("output", EPIPE), totals].concat();
+            let ended = run_until_closed(length, case.program(), fed);
+            assert_ended(ended, &case.out[..length], &said);
         }
     }
 }

@@ -42,7 +42,7 @@ pub fn program_after(words: &str, name: &str, arguments: &[&str]) -> Command {
 
 fn start(mut command: Command, input: Stdio, output: Stdio) -> Child {
     command.stdin(input).stdout(output).stderr(Stdio::piped()).spawn().unwrap_or_else(|error| {
-        panic!("{command:?}: {error}. Run `rt check` in the repository first.")
+        panic!("{command:?}: {error}. Run `.ci/build NAME` in the repository first.")
     })
 }
 
