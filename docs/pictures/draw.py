@@ -487,7 +487,7 @@ def read_crates():
     Both stand in the order of their names: crates.txt has them in that of proving.
     """
     lines = [line for line in CRATES.read_text().splitlines() if line.strip() and line[0] != "#"]
-    listed = {name.strip(): rest.split() for name, rest in (line.split(":") for line in lines)}
+    listed = {name.split()[0]: rest.split() for name, rest in (line.split(":") for line in lines)}
     rests = {name: sorted(o for o in listed[name] if o in listed) for name in sorted(listed)}
     for name, other in ((name, other) for name in rests for other in rests[name]):
         if group_of(name) > group_of(other):
