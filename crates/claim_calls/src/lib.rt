@@ -1,5 +1,6 @@
 // That calls which keep their contracts make the runs that the claims are about, that such lists of
-// calls there are, and what they tell, each as the contract of a function with an empty body.
+// calls there are, and what they tell, each as the contract of a function with an empty body; and
+// that the calls of source and sink do keep them, as contracts of functions that make one call.
 #![tactic(auto)]
 
 ghost use Rattle.std.specs.Prelude.{◌≡◌};

@@ -1,5 +1,6 @@
 // What a caller of the C interface sees are the runs that the claims are about, of source, sink,
-// tallies and keeper, as the contract of a function with an empty body.
+// tallies and keeper, as the contract of a function with an empty body; and that the calls of the
+// interface keep their contracts, as contracts of functions that make one call.
 #![tactic(auto)]
 
 ghost use Rattle.std.specs.Prelude.{◌≡◌};

@@ -1,6 +1,6 @@
 // That calls of the rate keeper which keep their contracts give counts that add up, to the nearest
 // whole number, and that such calls there are, each as the contract of a function with an empty
-// body.
+// body; and that the keeper's calls do keep them, as contracts of functions that make one call.
 #![tactic(auto)]
 
 ghost use Rattle.std.specs.Prelude.{◌≡◌};
