@@ -13,8 +13,7 @@ use Rattle.gmp_standing.specs.declared.Count.{Count}
 use Rattle.gmp_standing.specs.declared.Count.TheVariants.{Known, Unknown}
 use Rattle.gmp_standing.specs.Standing.{Finding, finding, READ, TRACKED, OUTSIDE}
 use Rattle.gmp_standing.specs.Known.{in_window}
-use Rattle.gmp_control.specs.declared.Remembered.{Remembered}
-use Rattle.gmp_control.specs.declared.Remembered.TheVariants.{Word, Nothing}
+use Rattle.std.specs.Prelude.{Option, Some, None}
 use Rattle.gmp_control.specs.Word.{modulus, equal_indicators, word_bytes, word_by}
 use Rattle.gmp_control.specs.Pattern.{Table, Rule}
 use Rattle.gmp_control.specs.Announce.{announced}
@@ -65,31 +64,31 @@ windowed_count s f = go f.count refl
     go (Known n) e = by n (outside s n) e
     go Unknown e = e
 
-found_count : (t : Table) (s : Settings) (c : Count) (r : Remembered) (w : ℕ)
+found_count : (t : Table) (s : Settings) (c : Count) (r : Option ℕ) (w : ℕ)
     → (found_by t s c r w).count ≡ in_window s (reached t (in_window s c) (usable r) w).count
 unfolding found_by
 found_count t s c r w = windowed_count s (reached t (in_window s c) (usable r) w)
 
-usable_word : (w : ℕ) → equal_indicators w ≡ false → usable (Word w) ≡ Word w
+usable_word : (w : ℕ) → equal_indicators w ≡ false → usable (Some w) ≡ Some w
 unfolding usable
 usable_word w e = rw e
 
-plain_word : (w : ℕ) → equal_indicators w ≡ true → usable (Word w) ≡ Nothing
+plain_word : (w : ℕ) → equal_indicators w ≡ true → usable (Some w) ≡ None
 unfolding usable
 plain_word w e = rw e
 
 -- Never false: the count is none or the true one, and the remembered word none or the source's word
 -- of the frame before, in which the count was old.
-pub record Safe (t : Table) (old count : ℕ) (c : Count) (r : Remembered) : Type 0 where
+pub record Safe (t : Table) (old count : ℕ) (c : Count) (r : Option ℕ) : Type 0 where
   pub count_true : NoneOr (λ (n : ℕ). n ≡ count) c
-  pub word_true : (r ≡ Nothing) ⊎ ((r ≡ Word (announced t old count)) × (equal_indicators (announced t old count) ≡ false))
+  pub word_true : (r ≡ None) ⊎ ((r ≡ Some (announced t old count)) × (equal_indicators (announced t old count) ≡ false))
 
 -- a sink that holds neither a count nor a word
-pub safe_none : (t : Table) (old count : ℕ) → Safe t old count Unknown Nothing
+pub safe_none : (t : Table) (old count : ℕ) → Safe t old count Unknown None
 safe_none t old count = record { count_true = tt; word_true = inl refl }
 
 -- a word that was read is remembered where II ≠ DI
-remembered_by : (w : ℕ) (b : Bool) → equal_indicators w ≡ b → (usable (Word w) ≡ Nothing) ⊎ ((usable (Word w) ≡ Word w) × (equal_indicators w ≡ false))
+remembered_by : (w : ℕ) (b : Bool) → equal_indicators w ≡ b → (usable (Some w) ≡ None) ⊎ ((usable (Some w) ≡ Some w) × (equal_indicators w ≡ false))
 remembered_by w true e = inl (plain_word w e)
 remembered_by w false e = inr (usable_word w e, e)
 
@@ -98,7 +97,7 @@ module _ (t : Table) (rule : Rule t) (s : Settings) (fit : Fit s) where
   says old next ho hn = announced_says t rule old next (count_lt s old fit ho) (count_lt s next fit hn)
 
   -- A sink that holds the true count, in step.
-  pub follows_true_count : (old next : ℕ) (r : Remembered) → outside s old ≡ false → outside s next ≡ false
+  pub follows_true_count : (old next : ℕ) (r : Option ℕ) → outside s old ≡ false → outside s next ≡ false
       → let w = announced t old next in found_by t s (Known old) r w ≡ finding (cond (equal_indicators w) READ TRACKED) (Known next)
   unfolding found_by
   follows_true_count old next r ho hn =
@@ -107,24 +106,24 @@ module _ (t : Table) (rule : Rule t) (s : Settings) (fit : Fit s) where
       ∙ reached_true t rule old next (announced t old next) (usable r) (says old next ho hn))
       ∙ rw hn
 
-  plain_found : (next w : ℕ) (c : Count) (r : Remembered) → outside s next ≡ false → Plain next w → (found_by t s c r w).count ≡ Known next
+  plain_found : (next w : ℕ) (c : Count) (r : Option ℕ) → outside s next ≡ false → Plain next w → (found_by t s c r w).count ≡ Known next
   plain_found next w c r hn p =
       found_count t s c r w
       ∙ ap (λ (f : Finding). in_window s f.count) (reached_plain t (in_window s c) (usable r) w p.equal)
       ∙ ap (λ (n : ℕ). in_window s (Known n)) p.count ∙ in_window_known s next hn
 
-  recover_by : (old mid next v w : ℕ) (c : Count) (r : Remembered) → outside s mid ≡ false → outside s next ≡ false
-      → Announces t old mid v → Announces t mid next w → (found_by t s (found_by t s c r v).count (usable (Word v)) w).count ≡ Known next
-  recover_by old mid next v w c r hm hn g (inl q) = plain_found next w (found_by t s c r v).count (usable (Word v)) hn q
+  recover_by : (old mid next v w : ℕ) (c : Count) (r : Option ℕ) → outside s mid ≡ false → outside s next ≡ false
+      → Announces t old mid v → Announces t mid next w → (found_by t s (found_by t s c r v).count (usable (Some v)) w).count ≡ Known next
+  recover_by old mid next v w c r hm hn g (inl q) = plain_found next w (found_by t s c r v).count (usable (Some v)) hn q
   recover_by old mid next v w c r hm hn (inl p) (inr h) =
-      found_count t s (found_by t s c r v).count (usable (Word v)) w
-      ∙ ap (λ (x : Count). in_window s (reached t x (usable (usable (Word v))) w).count)
+      found_count t s (found_by t s c r v).count (usable (Some v)) w
+      ∙ ap (λ (x : Count). in_window s (reached t x (usable (usable (Some v))) w).count)
       (ap (in_window s) (plain_found mid v c r hm p) ∙ in_window_known s mid hm)
-      ∙ ap (λ (f : Finding). in_window s f.count) (reached_true t rule mid next w (usable (usable (Word v))) (inr h))
+      ∙ ap (λ (f : Finding). in_window s f.count) (reached_true t rule mid next w (usable (usable (Some v))) (inr h))
       ∙ in_window_known s next hn
   recover_by old mid next v w c r hm hn (inr g) (inr h) =
-      found_count t s (found_by t s c r v).count (usable (Word v)) w
-      ∙ ap (λ (x : Remembered). in_window s (reached t (in_window s (found_by t s c r v).count) x w).count)
+      found_count t s (found_by t s c r v).count (usable (Some v)) w
+      ∙ ap (λ (x : Option ℕ). in_window s (reached t (in_window s (found_by t s c r v).count) x w).count)
       (ap usable (usable_word v g.unequal) ∙ usable_word v g.unequal)
       ∙ ap (in_window s)
       (second_reading t rule old mid next v w g h (in_window s (found_by t s c r v).count)
@@ -134,8 +133,8 @@ module _ (t : Table) (rule : Rule t) (s : Settings) (fit : Fit s) where
       ∙ in_window_known s next hn
 
   -- From any state, two words of a source in succession give the source's count.
-  pub recovers_in_two : (old mid next : ℕ) (c : Count) (r : Remembered) → outside s old ≡ false → outside s mid ≡ false → outside s next ≡ false
-      → let v = announced t old mid in (found_by t s (found_by t s c r v).count (usable (Word v)) (announced t mid next)).count ≡ Known next
+  pub recovers_in_two : (old mid next : ℕ) (c : Count) (r : Option ℕ) → outside s old ≡ false → outside s mid ≡ false → outside s next ≡ false
+      → let v = announced t old mid in (found_by t s (found_by t s c r v).count (usable (Some v)) (announced t mid next)).count ≡ Known next
   recovers_in_two old mid next c r ho hm hn =
       recover_by old mid next (announced t old mid) (announced t mid next) c r hm hn (says old mid ho hm) (says mid next hm hn)
 
@@ -145,17 +144,17 @@ module _ (t : Table) (rule : Rule t) (s : Settings) (fit : Fit s) where
       subst⁻¹ (NoneOr (λ (n : ℕ). n ≡ next)) (ap (λ (m : ℕ). from_count t (Known m) w) p ∙ from_true t rule mid next w h) refl
   from_safe mid next w Unknown h p = tt
 
-  word_safe : (old mid next v w : ℕ) (r : Remembered) → Changes t mid next w → Announces t old mid v
-      → (r ≡ Nothing) ⊎ ((r ≡ Word v) × (equal_indicators v ≡ false)) → NoneOr (λ (n : ℕ). n ≡ next) (from_word t (usable r) w)
+  word_safe : (old mid next v w : ℕ) (r : Option ℕ) → Changes t mid next w → Announces t old mid v
+      → (r ≡ None) ⊎ ((r ≡ Some v) × (equal_indicators v ≡ false)) → NoneOr (λ (n : ℕ). n ≡ next) (from_word t (usable r) w)
   unfolding usable
   word_safe old mid next v w r h g (inl e) = rw e tt
   word_safe old mid next v w r h (inl p) (inr (e, u)) = absurd (true≢false (sym p.equal ∙ u))
   word_safe old mid next v w r h (inr g) (inr (e, u)) =
       subst⁻¹ (NoneOr (λ (n : ℕ). n ≡ next))
-      (ap (λ (q : Remembered). from_word t q w) (ap usable e ∙ usable_word v u) ∙ word_true t rule old mid next v w g h) refl
+      (ap (λ (q : Option ℕ). from_word t q w) (ap usable e ∙ usable_word v u) ∙ word_true t rule old mid next v w g h) refl
 
-  safe_by : (old mid next v w : ℕ) (c : Count) (r : Remembered) → outside s next ≡ false → NoneOr (λ (n : ℕ). n ≡ mid) c
-      → (r ≡ Nothing) ⊎ ((r ≡ Word v) × (equal_indicators v ≡ false)) → Announces t old mid v → Announces t mid next w
+  safe_by : (old mid next v w : ℕ) (c : Count) (r : Option ℕ) → outside s next ≡ false → NoneOr (λ (n : ℕ). n ≡ mid) c
+      → (r ≡ None) ⊎ ((r ≡ Some v) × (equal_indicators v ≡ false)) → Announces t old mid v → Announces t mid next w
       → NoneOr (λ (n : ℕ). n ≡ next) (found_by t s c r w).count
   safe_by old mid next v w c r hn p q g (inl h) = subst⁻¹ (NoneOr (λ (n : ℕ). n ≡ next)) (plain_found next w c r hn h) refl
   safe_by old mid next v w c r hn p q g (inr h) =
@@ -167,8 +166,8 @@ module _ (t : Table) (rule : Rule t) (s : Settings) (fit : Fit s) where
       (word_safe old mid next v w r h g q))))
 
   -- A sink that is never false stays so along the words of a source.
-  pub stays_safe : (old mid next : ℕ) (c : Count) (r : Remembered) → outside s old ≡ false → outside s mid ≡ false → outside s next ≡ false
-      → Safe t old mid c r → let w = announced t mid next in Safe t mid next (found_by t s c r w).count (usable (Word w))
+  pub stays_safe : (old mid next : ℕ) (c : Count) (r : Option ℕ) → outside s old ≡ false → outside s mid ≡ false → outside s next ≡ false
+      → Safe t old mid c r → let w = announced t mid next in Safe t mid next (found_by t s c r w).count (usable (Some w))
   stays_safe old mid next c r ho hm hn safe =
       record {
         count_true = safe_by old mid next (announced t old mid) (announced t mid next) c r hn safe.count_true safe.word_true

@@ -9,7 +9,7 @@ use Rattle.gmp_standing.specs.declared.Count.{Count}
 use Rattle.gmp_standing.specs.declared.Count.TheVariants.{Known, Unknown}
 use Rattle.gmp_standing.specs.Standing.{Finding, finding, READ, BADCHECK, OUTSIDE}
 use Rattle.gmp_standing.specs.Known.{in_window}
-use Rattle.gmp_control.specs.declared.Remembered.{Remembered}
+use Rattle.std.specs.Prelude.{Option}
 use Rattle.gmp_control.specs.Word.{count_bits, equal_indicators}
 use Rattle.gmp_control.specs.Pattern.{Table}
 use Rattle.gmp_control.specs.Follow.{usable, from_count, from_word, tracked_else_paired, reached, windowed_by, found_by}
@@ -31,7 +31,7 @@ other_window : (s : Settings) (f : Finding) (c : Count) → Other f → Other (w
 other_window s f (Known n) p = other_choice (outside s n) (finding OUTSIDE Unknown) f refl p
 other_window s f Unknown p = p
 
-pub never_bad_check : (t : Table) (s : Settings) (count : Count) (before : Remembered) (w : ℕ) → same_list (found_by t s count before w).name BADCHECK ≡ false
+pub never_bad_check : (t : Table) (s : Settings) (count : Count) (before : Option ℕ) (w : ℕ) → same_list (found_by t s count before w).name BADCHECK ≡ false
 unfolding found_by reached
 never_bad_check t s count before w =
     let rule-3 : Finding = tracked_else_paired (from_count t (in_window s count) w) (from_word t (usable before) w) in

@@ -9,7 +9,7 @@ use Rattle.gmp_settings.specs.Settings.{Fit, opu0, outside}
 use Rattle.gmp_settings.proofs.Laws.{settings_fit}
 use Rattle.gmp_standing.specs.declared.Count.TheVariants.{Known, Unknown}
 use Rattle.gmp_standing.specs.Known.{in_window}
-use Rattle.gmp_control.specs.declared.Remembered.TheVariants.{Nothing}
+use Rattle.std.specs.Prelude.{None}
 use Rattle.gmp_control.specs.Word.{modulus, equal_indicators}
 use Rattle.gmp_control.specs.Pattern.{Short}
 use Rattle.gmp_control.specs.Announce.{announced}
@@ -33,7 +33,7 @@ rule_is_needed =
         short _ _ _ _ (lit< tt) (lit< tt) (lit< tt) (lit< tt),
         -- 14408, 14410, 14409: the sink comes to the false count 4384, which is outside the window
         λ h.
-            let e : Unknown ≡ Known 14409 = h opu0 opu0_fit 14408 14410 14409 Unknown Nothing refl refl refl in
+            let e : Unknown ≡ Known 14409 = h opu0 opu0_fit 14408 14410 14409 Unknown None refl refl refl in
             let z : ◌≡◌ {A = ℕ} 0 1 = cc in
             omega arith,
       );
@@ -42,7 +42,7 @@ rule_is_needed =
         short _ _ _ _ (lit< tt) (lit< tt) (lit< tt) (lit< tt),
         -- 14405, 14406, 14408: the sink cannot tell +2 from +1
         λ h.
-            let e : Known 14407 ≡ Known 14408 = h opu0 opu0_fit 14405 14406 14408 Unknown Nothing refl refl refl in
+            let e : Known 14407 ≡ Known 14408 = h opu0 opu0_fit 14405 14406 14408 Unknown None refl refl refl in
             let z : ◌≡◌ {A = ℕ} 14407 14408 = cc in
             omega arith,
       );
@@ -51,7 +51,7 @@ rule_is_needed =
         λ e. omega arith,
         -- 14405, 14406, 14407: the 14 bits of a word are never a pattern of 15
         λ h.
-            let e : Unknown ≡ Known 14407 = h opu0 opu0_fit 14405 14406 14407 Unknown Nothing refl refl refl in
+            let e : Unknown ≡ Known 14407 = h opu0 opu0_fit 14405 14406 14407 Unknown None refl refl refl in
             let z : ◌≡◌ {A = ℕ} 0 1 = cc in
             omega arith,
       );

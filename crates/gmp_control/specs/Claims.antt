@@ -6,8 +6,7 @@ use Rattle.gmp_settings.specs.Settings.{Fit, outside}
 use Rattle.gmp_standing.specs.declared.Count.{Count}
 use Rattle.gmp_standing.specs.declared.Count.TheVariants.{Known}
 use Rattle.gmp_standing.specs.Standing.{finding, READ, TRACKED}
-use Rattle.gmp_control.specs.declared.Remembered.{Remembered}
-use Rattle.gmp_control.specs.declared.Remembered.TheVariants.{Word}
+use Rattle.std.specs.Prelude.{Option, Some}
 use Rattle.gmp_control.specs.Word.{equal_indicators}
 use Rattle.gmp_control.specs.Pattern.{Table, standard, Rule}
 use Rattle.gmp_control.specs.Announce.{announced}
@@ -16,17 +15,17 @@ use Rattle.gmp_control.specs.Follow.{usable, tracked, candidate, found_by}
 -- a true count is followed to the next, READ where II = DI and otherwise TRACKED
 abbrev pub FollowsTrueCount : Table → Type 0
 FollowsTrueCount t =
-    (s : Settings) → Fit s → (old next : ℕ) (before : Remembered) → outside s old ≡ false → outside s next ≡ false
+    (s : Settings) → Fit s → (old next : ℕ) (before : Option ℕ) → outside s old ≡ false → outside s next ≡ false
     → let w = announced t old next in
     found_by t s (Known old) before w ≡ finding (cond (equal_indicators w) READ TRACKED) (Known next)
 
 -- from any state two words of a source in succession give the source's count
 abbrev pub RecoversInTwo : Table → Type 0
 RecoversInTwo t =
-    (s : Settings) → Fit s → (old mid next : ℕ) (count : Count) (before : Remembered)
+    (s : Settings) → Fit s → (old mid next : ℕ) (count : Count) (before : Option ℕ)
     → outside s old ≡ false → outside s mid ≡ false → outside s next ≡ false
     → let v = announced t old mid in
-    (found_by t s (found_by t s count before v).count (usable (Word v)) (announced t mid next)).count ≡ Known next
+    (found_by t s (found_by t s count before v).count (usable (Some v)) (announced t mid next)).count ≡ Known next
 
 -- "the one which this word continues": where both possible counts of a word are continued, they
 -- lead to the same count

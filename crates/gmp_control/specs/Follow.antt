@@ -8,16 +8,15 @@ use Rattle.gmp_standing.specs.declared.Count.{Count}
 use Rattle.gmp_standing.specs.declared.Count.TheVariants.{Known, Unknown}
 use Rattle.gmp_standing.specs.Standing.{Finding, finding, READ, TRACKED, PAIRED, WAITING, OUTSIDE, standing_meaning}
 use Rattle.gmp_standing.specs.Known.{in_window}
-use Rattle.gmp_control.specs.declared.Remembered.{Remembered}
-use Rattle.gmp_control.specs.declared.Remembered.TheVariants.{Word, Nothing}
+use Rattle.std.specs.Prelude.{Option, Some, None}
 use Rattle.gmp_control.specs.declared.Followed.{Followed}
 use Rattle.gmp_control.specs.Word.{moved, count_bits, equal_indicators, sign}
 use Rattle.gmp_control.specs.Pattern.{Table, table_of, pattern_at, change_at}
 
 -- "and so does a remembered word with II = DI."
-unfoldable pub usable : Remembered → Remembered
-usable (Word w) = cond (equal_indicators w) Nothing (Word w)
-usable Nothing = Nothing
+unfoldable pub usable : Option ℕ → Option ℕ
+usable (Some w) = cond (equal_indicators w) None (Some w)
+usable None = None
 
 -- "C exclusive-or that count is one of the two patterns of this sign, the count moves by that
 -- pattern's change": the count after a word with these count bits and sign, from this count
@@ -44,9 +43,9 @@ abbrev pub from_count : Table → Count → ℕ → Count
 from_count t (Known n) w = tracked t n (count_bits w) (sign w)
 from_count t Unknown w = Unknown
 
-abbrev pub from_word : Table → Remembered → ℕ → Count
-from_word t (Word v) w = paired t (count_bits v) (sign v) (count_bits w) (sign w)
-from_word t Nothing w = Unknown
+abbrev pub from_word : Table → Option ℕ → ℕ → Count
+from_word t (Some v) w = paired t (count_bits v) (sign v) (count_bits w) (sign w)
+from_word t None w = Unknown
 
 -- rule 3: from the known count "TRACKED. Otherwise, if a word was remembered from before, ..
 -- PAIRED. Otherwise count none: WAITING."
@@ -56,7 +55,7 @@ tracked_else_paired Unknown (Known n) = finding PAIRED (Known n)
 tracked_else_paired Unknown Unknown = finding WAITING Unknown
 
 -- rule 2, "II = DI: the count is the C bits, word none. READ", or rule 3
-unfoldable pub reached : Table → Count → Remembered → ℕ → Finding
+unfoldable pub reached : Table → Count → Option ℕ → ℕ → Finding
 reached t count before w = cond (equal_indicators w) (finding READ (Known (count_bits w))) (tracked_else_paired (from_count t count w) (from_word t before w))
 
 -- "A count reached in 2 or 3 that is outside the window becomes none: OUTSIDE"
@@ -69,16 +68,16 @@ windowed s f = windowed_by s f f.count
 
 -- the standing after a word w that was read, from this count and this remembered word, with
 -- this table of patterns
-unfoldable pub found_by : Table → Settings → Count → Remembered → ℕ → Finding
+unfoldable pub found_by : Table → Settings → Count → Option ℕ → ℕ → Finding
 found_by t s count before w = windowed s (reached t (in_window s count) (usable before) w)
 
 -- and with that of the settings
-abbrev pub found : Settings → Count → Remembered → ℕ → Finding
+abbrev pub found : Settings → Count → Option ℕ → ℕ → Finding
 found s count before w = found_by (table_of s) s count before w
 
 -- What `follow` promises: the standing; the new count is what it found; the word is remembered
 -- where II ≠ DI, OUTSIDE or not.
-pub record Follows (s : Settings) (count : Count) (before : Remembered) (w : ℕ) (r : Followed) : Type 0 where
+pub record Follows (s : Settings) (count : Count) (before : Option ℕ) (w : ℕ) (r : Followed) : Type 0 where
   pub standing : standing_meaning r.standing ≡ found s count before w
   pub count_is : r.count ≡ (found s count before w).count
-  pub word_is : r.word ≡ usable (Word w)
+  pub word_is : r.word ≡ usable (Some w)

@@ -2,7 +2,7 @@
 -- II, DI, most significant bit first". Its 16 bits are one number, JC1 × 256 + JC2. Assumes
 -- nothing.
 use Rattle.std.specs.Prelude.{Bool, ℕ, ◌+◌, ◌*◌, ◌/◌, ◌%◌, eqb}
-use Rattle.gmp_control.specs.declared.WordBytes.{WordBytes}
+use Rattle.gmp_crc8.specs.declared.WordBytes.{WordBytes}
 
 -- "All arithmetic on count bits is modulo 16,384."
 abbrev pub modulus : ℕ

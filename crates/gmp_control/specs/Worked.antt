@@ -9,8 +9,8 @@ use Rattle.gmp_settings.specs.Worked.{four, one_bit_wrong}
 use Rattle.gmp_standing.specs.declared.Count.TheVariants.{Known, Unknown}
 use Rattle.gmp_standing.specs.Standing.{finding, TRACKED, PAIRED, WAITING, OUTSIDE}
 use Rattle.gmp_standing.specs.Known.{in_window}
-use Rattle.gmp_control.specs.declared.WordBytes.{WordBytes}
-use Rattle.gmp_control.specs.declared.Remembered.TheVariants.{Word, Nothing}
+use Rattle.gmp_crc8.specs.declared.WordBytes.{WordBytes}
+use Rattle.std.specs.Prelude.{Some, None}
 use Rattle.gmp_control.specs.Word.{count_bits, equal_indicators, word_bytes, word_by}
 use Rattle.gmp_control.specs.Pattern.{Table, standard, table_by, table_of, pattern_at}
 use Rattle.gmp_control.specs.Announce.{announced}
@@ -27,8 +27,8 @@ wide = new_settings 3808 0 15232
 -- is PAIRED, 14409." Of the starred cases this one stands here too: it is what goes wrong at a sink
 -- that forgets the remembered word while a count is known (the edit word_forgotten_in_step).
 pub false_count_lem :
-    (found wide (Known 2932) Nothing (word_by 0x4B 0xB6) ≡ finding TRACKED (Known 2934))
-    × (found wide (Known 2934) (Word (word_by 0x4B 0xB6)) (word_by 0x4B 0x8A) ≡ finding PAIRED (Known 14409))
+    (found wide (Known 2932) None (word_by 0x4B 0xB6) ≡ finding TRACKED (Known 2934))
+    × (found wide (Known 2934) (Some (word_by 0x4B 0xB6)) (word_by 0x4B 0x8A) ≡ finding PAIRED (Known 14409))
 unfolding found_by in_window usable tracked candidate paired reached equal_indicators table_of outside
 false_count_lem = (refl, refl)
 
@@ -43,8 +43,8 @@ pub odd_table :
     × (word_bytes (announced (table_of odd) 14408 14409) ≡ bytes 0xE1 0x22)
     × (candidate (table_of odd) (count_bits (word_by 0xE1 0x1E)) 0 ≡ 14408)
     × (candidate (table_of odd) (count_bits (word_by 0xE1 0x1E)) 2 ≡ 14408)
-    × (found odd Unknown Nothing (word_by 0xE1 0x1E) ≡ finding WAITING Unknown)
-    × (found odd Unknown (Word (word_by 0xE1 0x1E)) (word_by 0xE1 0x22) ≡ finding PAIRED (Known 14409))
+    × (found odd Unknown None (word_by 0xE1 0x1E) ≡ finding WAITING Unknown)
+    × (found odd Unknown (Some (word_by 0xE1 0x1E)) (word_by 0xE1 0x22) ≡ finding PAIRED (Known 14409))
 unfolding announced found_by in_window usable tracked candidate paired reached equal_indicators table_of outside
 odd_table = (refl, refl, refl, refl, refl, refl)
 
@@ -60,8 +60,8 @@ broken = table_by (Given one_bit_wrong)
 pub one_bit_wrong_lem :
     (word_bytes (announced broken 14408 14410) ≡ bytes 0xB4 0x76)
     × (word_bytes (announced broken 14410 14409) ≡ bytes 0xEE 0x25)
-    × (found_by broken wide Unknown Nothing (word_by 0xB4 0x76) ≡ finding WAITING Unknown)
-    × (found_by broken wide Unknown (Word (word_by 0xB4 0x76)) (word_by 0xEE 0x25) ≡ finding PAIRED (Known 4384))
-    × (found_by broken opu0 Unknown (Word (word_by 0xB4 0x76)) (word_by 0xEE 0x25) ≡ finding OUTSIDE Unknown)
+    × (found_by broken wide Unknown None (word_by 0xB4 0x76) ≡ finding WAITING Unknown)
+    × (found_by broken wide Unknown (Some (word_by 0xB4 0x76)) (word_by 0xEE 0x25) ≡ finding PAIRED (Known 4384))
+    × (found_by broken opu0 Unknown (Some (word_by 0xB4 0x76)) (word_by 0xEE 0x25) ≡ finding OUTSIDE Unknown)
 unfolding announced found_by in_window usable tracked candidate paired reached equal_indicators outside
 one_bit_wrong_lem = (refl, refl, refl, refl, refl)

@@ -13,26 +13,12 @@ ghost use Rattle.gmp_control.specs.Checked.{RuleIsChecked, RuleIsNeeded};
 use gmp_settings::{Patterns, Settings};
 use gmp_standing::{Count, Standing};
 
-// The two bytes of a word before its check.
-#[derive(Clone, Copy)]
-pub struct WordBytes {
-    pub jc1: u8,
-    pub jc2: u8,
-}
-
-// The word of the frame before, as JC1 times 256 plus JC2, where one is remembered.
-#[derive(Clone, Copy)]
-pub enum Remembered {
-    Word(u32),
-    Nothing,
-}
-
 // What a word leads to: the standing, the new count and the word to remember.
 #[derive(Clone, Copy)]
 pub struct Followed {
     pub standing: Standing,
     pub count: Count,
-    pub word: Remembered,
+    pub word: Option<u32>,
 }
 
 // The standard's inversion patterns, C1 to C14, of the changes +1, -1, +2, -2.
@@ -47,7 +33,9 @@ const PATTERNS: [u32; 4] = [
 const CHANGES: [u32; 4] = [1, 16383, 2, 16382];
 
 // The pattern of a change, from the table of the settings: the standard's, or the four that they
-// carry. A change is 0 to 3; any further number stands for none, and inverts nothing.
+// carry. A change is 0 to 3; any further number stands for none, and inverts nothing. It is a
+// number and no enum, since 01 has the patterns as a table indexed by change.
+#[tactic(auto, unfolding(crate::specs::Pattern::table_of))]
 pub fn pattern(settings: Settings, change: usize) -> u32
     ensures { result ≡ pattern_at (table_of settings) change }
 {
@@ -71,17 +59,20 @@ pub fn move_count(count: u32, change: usize) -> u32
 
 // Every table of patterns that keeps the rule serves: a true count is followed, and two words in
 // succession find the count from any state.
+#[tactic(auto, using(crate::proofs::Laws::tables_serve))]
 pub fn tables_serve()
     ensures { TablesServe }
 {}
 
 // Settings to which number 14 does not apply have a table that keeps the rule, and no others have.
+#[tactic(auto, using(crate::proofs::Tables::rule_is_checked))]
 pub fn rule_is_checked()
     ensures { RuleIsChecked }
 {}
 
 // No part of the rule can be left out: for each part there is a table that keeps the other two, and
 // a run of two words in succession that do not find the count.
+#[tactic(auto, using(crate::proofs::Needed::rule_is_needed))]
 pub fn rule_is_needed()
     ensures { RuleIsNeeded }
 {}

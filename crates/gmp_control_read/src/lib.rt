@@ -8,13 +8,14 @@ ghost use Rattle.gmp_control.specs.Word.{count_bits, equal_indicators, sign, wor
 ghost use Rattle.gmp_control.specs.Pattern.{table_of};
 ghost use Rattle.gmp_control.specs.Follow.{usable, tracked, candidate, from_count, from_word, tracked_else_paired, reached, windowed, Follows};
 
-use gmp_control::{Followed, Remembered};
+use gmp_control::Followed;
 use gmp_settings::Settings;
 use gmp_standing::{Count, Standing};
 
 // What a word that was read leads to, from a known count or none and a remembered word or
 // none. A count outside the window and a remembered word with II = DI count as none.
-pub fn follow(settings: Settings, count: Count, earlier: Remembered, jc1: u8, jc2: u8) -> Followed
+#[tactic(auto, unfolding(gmp_control::specs::Follow::found_by))]
+pub fn follow(settings: Settings, count: Count, earlier: Option<u32>, jc1: u8, jc2: u8) -> Followed
     ensures { Follows settings count earlier (word_by jc1 jc2) result }
 {
     let word = join(jc1, jc2);
@@ -24,25 +25,25 @@ pub fn follow(settings: Settings, count: Count, earlier: Remembered, jc1: u8, jc
     Followed {
         standing: standing,
         count: gmp_standing::found_count(standing),
-        word: usable_word(Remembered::Word(word)),
+        word: usable_word(Some(word)),
     }
 }
 
 // The remembered word, where there is one and its II and DI differ.
-fn usable_word(earlier: Remembered) -> Remembered
+#[tactic(auto, unfolding(gmp_control::specs::Follow::usable))]
+fn usable_word(earlier: Option<u32>) -> Option<u32>
     ensures { result ≡ usable earlier }
 {
-    let Remembered::Word(w) = earlier else {
-        return Remembered::Nothing;
-    };
+    let w = earlier?;
     if equal_indicators(w) {
-        return Remembered::Nothing;
+        return None;
     }
-    Remembered::Word(w)
+    Some(w)
 }
 
 // Rules 2 and 3, before the window.
-fn read_word(settings: Settings, count: Count, earlier: Remembered, word: u32) -> Standing
+#[tactic(auto, unfolding(gmp_control::specs::Follow::reached))]
+fn read_word(settings: Settings, count: Count, earlier: Option<u32>, word: u32) -> Standing
     ensures { standing_meaning result ≡ reached (table_of settings) count earlier word }
 {
     if equal_indicators(word) {
@@ -55,21 +56,18 @@ fn read_word(settings: Settings, count: Count, earlier: Remembered, word: u32) -
 fn tracked_else_paired(tracked: Count, paired: Count) -> Standing
     ensures { standing_meaning result ≡ tracked_else_paired tracked paired }
 {
-    let Count::Known(n) = tracked else {
-        let Count::Known(m) = paired else {
-            return Standing::Waiting;
-        };
-        return Standing::Paired(m);
-    };
-    Standing::Tracked(n)
+    match (tracked, paired) {
+        (Count::Known(n), _) => Standing::Tracked(n),
+        (Count::Unknown, Count::Known(m)) => Standing::Paired(m),
+        (Count::Unknown, Count::Unknown) => Standing::Waiting,
+    }
 }
 
 // A count that was reached and lies outside the window becomes none.
 fn judge_window(settings: Settings, standing: Standing) -> Standing
     ensures { standing_meaning result ≡ windowed settings (standing_meaning standing) }
 {
-    let count = gmp_standing::found_count(standing);
-    let Count::Known(reached) = count else {
+    let Count::Known(reached) = gmp_standing::found_count(standing) else {
         return standing;
     };
     if gmp_settings_judge::is_outside(settings, reached) {
@@ -89,21 +87,23 @@ fn track(settings: Settings, count: Count, word: u32) -> Count
 }
 
 // The count that a word leads to from the two possible counts of the remembered word.
-fn pair(settings: Settings, earlier: Remembered, word: u32) -> Count
+#[tactic(auto, unfolding(gmp_control::specs::Follow::paired))]
+fn pair(settings: Settings, earlier: Option<u32>, word: u32) -> Count
     ensures { result ≡ from_word (table_of settings) earlier word }
 {
-    let Remembered::Word(v) = earlier else {
+    let Some(v) = earlier else {
         return Count::Unknown;
     };
-    let first = continue_count(settings, possible(settings, v, sign_of(v)), word);
-    let Count::Known(n) = first else {
-        return continue_count(settings, possible(settings, v, sign_of(v) + 2), word);
-    };
-    Count::Known(n)
+    let s = sign_of(v);
+    match continue_count(settings, possible(settings, v, s), word) {
+        Count::Known(n) => Count::Known(n),
+        Count::Unknown => continue_count(settings, possible(settings, v, s + 2), word),
+    }
 }
 
 // A count that a word with II != DI continues by one of the two patterns of its sign moves by that
 // change.
+#[tactic(auto, unfolding(gmp_control::specs::Follow::tracked))]
 fn continue_count(settings: Settings, count: u32, word: u32) -> Count
     ensures { result ≡ tracked (table_of settings) count (count_bits word) (sign word) }
 {
@@ -119,6 +119,7 @@ fn continue_count(settings: Settings, count: u32, word: u32) -> Count
 }
 
 // The count that a word leads to if it stands for this change.
+#[tactic(auto, unfolding(gmp_control::specs::Follow::candidate))]
 fn possible(settings: Settings, word: u32, change: usize) -> u32
     ensures { result ≡ candidate (table_of settings) (count_bits word) change }
 {
@@ -142,6 +143,7 @@ fn count_bits(word: u32) -> u32
 }
 
 // Whether II = DI.
+#[tactic(auto, unfolding(gmp_control::specs::Word::equal_indicators))]
 fn equal_indicators(word: u32) -> bool
     ensures { result ≡ equal_indicators word }
 {

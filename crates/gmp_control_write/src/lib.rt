@@ -7,10 +7,13 @@ ghost use Rattle.gmp_control.specs.Word.{word_of, word_bytes};
 ghost use Rattle.gmp_control.specs.Pattern.{table_of, pattern_at};
 ghost use Rattle.gmp_control.specs.Announce.{announced};
 
-use gmp_control::WordBytes;
+use gmp_crc8::WordBytes;
 use gmp_settings::Settings;
 
-// The word in a frame of count old that announces the count next. Both are taken modulo 16,384.
+// The word in a frame of count old that announces the count next. Both are taken modulo 16,384. The
+// four changes stand one by one, as in the clause's table, each with its II and DI: a search
+// through them would be no plainer, since both go by the sign.
+#[tactic(auto, unfolding(gmp_control::specs::Announce::announced))]
 pub fn announce(settings: Settings, old: u32, next: u32) -> WordBytes
     ensures { result ≡ word_bytes (announced (table_of settings) old next) }
 {

@@ -8,7 +8,7 @@ use lib.Bits.{bit_xor}
 use lib.Dec.{T, lit<, lit≤}
 use borrow.Author.Tests.{eq-eqb}
 use Rattle.math.specs.Bits.{digit, bits, differing}
-use Rattle.gmp_crc8.specs.declared.ReadWord.{ReadWord}
+use Rattle.gmp_crc8.specs.declared.WordBytes.{WordBytes}
 use Rattle.gmp_crc8.specs.declared.CheckedWord.{CheckedWord}
 use Rattle.gmp_crc8.specs.declared.CheckedWord.TheVariants.{Whole, Mended, Bad}
 use Rattle.gmp_crc8.specs.Check.{remainder, passes, syndrome, word, wrong_bits}
@@ -108,7 +108,7 @@ module _ (a b c x y z : ℕ) (u : Bytes a b c) (v : Bytes x y z) (p : passes a b
       (same_words a b x y s.0 s.1, same_bits s)
 
   -- where it is mended, with at most two wrong bits, it is the word, and one bit is wrong
-  mended_same : (w : ReadWord) → wrong_bits a b c x y z ≤ 2 → mended x y (syndrome x y z) ≡ Mended w → (w ≡ read_word a b) × (wrong_bits a b c x y z ≡ 1)
+  mended_same : (w : WordBytes) → wrong_bits a b c x y z ≤ 2 → mended x y (syndrome x y z) ≡ Mended w → (w ≡ read_word a b) × (wrong_bits a b c x y z ≡ 1)
   unfolding wrong_bits flipped
   mended_same w h e =
       let f = mended_found x y (syndrome x y z) w e in

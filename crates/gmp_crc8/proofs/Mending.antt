@@ -13,7 +13,7 @@ use Rattle.math.proofs.Xor.{xor_medial, xor_zero_eq}
 use Rattle.math.specs.Finite.{below}
 use Rattle.math.proofs.Finite.{at_below, agree_below}
 use Rattle.math.specs.Bits.{digit, bits, differing}
-use Rattle.gmp_crc8.specs.declared.ReadWord.{ReadWord}
+use Rattle.gmp_crc8.specs.declared.WordBytes.{WordBytes}
 use Rattle.gmp_crc8.specs.declared.CheckedWord.TheVariants.{Whole, Mended, Bad}
 use Rattle.gmp_crc8.specs.Division.{reduce, divide}
 use Rattle.gmp_crc8.specs.Check.{remainder, passes, syndrome, word, wrong_bits}
@@ -178,7 +178,7 @@ unfolding wrong_bit
 wrong_bit_found r j h f = let l = is_found r 24 0 j (omega arith) (omega arith) f in omega arith
 
 -- So what is mended was found in the table,
-pub mended_found : (x y r : ℕ) (w : ReadWord) → mended x y r ≡ Mended w → (j : ℕ) × (j < 24) × (one_bit j ≡ r) × (w ≡ flipped x y j)
+pub mended_found : (x y r : ℕ) (w : WordBytes) → mended x y r ≡ Mended w → (j : ℕ) × (j < 24) × (one_bit j ≡ r) × (w ≡ flipped x y j)
 unfolding mended
 mended_found x y r w e = by (ltb (wrong_bit r) 24) refl e
   where
@@ -195,7 +195,7 @@ mended_not_bad x y r j h f e =
     omega arith
 
 -- and nothing is mended to whole.
-pub mended_not_whole : (x y r : ℕ) (w : ReadWord) → mended x y r ≡ Whole w → ⊥
+pub mended_not_whole : (x y r : ℕ) (w : WordBytes) → mended x y r ≡ Whole w → ⊥
 unfolding mended
 mended_not_whole x y r w e = by (ltb (wrong_bit r) 24) e
   where

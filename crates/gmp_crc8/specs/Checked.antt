@@ -1,12 +1,12 @@
 -- What a control word reads as (02, P1): whole, mended or bad. Assumes nothing.
 use Rattle.std.specs.Prelude.{Bool, cond, ℕ, zero, suc, ◌/◌, ◌%◌, ◌^◌, eqb, ltb}
 use Rattle.std.specs.Int.Bits.{bit_xor}
-use Rattle.gmp_crc8.specs.declared.ReadWord.{ReadWord}
+use Rattle.gmp_crc8.specs.declared.WordBytes.{WordBytes}
 use Rattle.gmp_crc8.specs.declared.CheckedWord.{CheckedWord}
 use Rattle.gmp_crc8.specs.declared.CheckedWord.TheVariants.{Whole, Mended, Bad}
 use Rattle.gmp_crc8.specs.Check.{passes, syndrome}
 
-abbrev pub read_word : ℕ → ℕ → ReadWord
+abbrev pub read_word : ℕ → ℕ → WordBytes
 read_word jc1 jc2 = record { jc1 = jc1; jc2 = jc2 }
 
 -- "the 24": the bits of JC1 to JC3 are numbered 0 to 23, most significant first. In byte 0, 1 or 2
@@ -19,7 +19,7 @@ unfoldable pub one_bit : ℕ → ℕ
 one_bit bit = syndrome (bit_in 0 bit) (bit_in 1 bit) (bit_in 2 bit)
 
 -- the word with that bit flipped: a bit of JC3 is none of the word's
-unfoldable pub flipped : ℕ → ℕ → ℕ → ReadWord
+unfoldable pub flipped : ℕ → ℕ → ℕ → WordBytes
 flipped jc1 jc2 bit = read_word (bit_xor jc1 (bit_in 0 bit)) (bit_xor jc2 (bit_in 1 bit))
 
 -- the first of so many bits from this one on that alone is wrong where this is the remainder, or

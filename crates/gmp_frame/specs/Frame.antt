@@ -1,9 +1,14 @@
 -- The frame's layout (01, "Settings and the frame"): four rows of K + 2 bytes. Rows are numbered
 -- from 0 here, payload bytes from 1. Assumes nothing.
-use Rattle.std.specs.Prelude.{◌≡◌, cond, ◌&&◌, List, ◌∷◌, ◌++◌, ℕ, ◌+◌, ◌*◌, ◌≤◌, length, get_or, take, drop, eqb, leb}
+use Rattle.std.specs.Prelude.{◌≡◌, cond, ◌&&◌, List, ◌∷◌, ◌++◌, ℕ, ◌+◌, ◌*◌, ◌≤◌, ◌<◌, length, get_or, take, drop, eqb, leb}
 use Rattle.gmp_settings.specs.Grid.{payload_bytes, frame_bytes}
 use Rattle.gmp_frame.specs.declared.Control.{Control}
 use Rattle.gmp_places.specs.Places.{placed, tabulate, chosen}
+
+-- bytes as long as a frame on a grid of k columns, with k below 2^32, that have room for C client
+-- bytes
+abbrev pub HasRoom : ℕ → ℕ → List ℕ → Type 0
+HasRoom k C bytes = (length bytes ≡ frame_bytes k) × (C ≤ payload_bytes k) × (k < 4294967296)
 
 -- row r with its first two bytes a and b, and then its K payload bytes
 unfoldable pub row : ℕ → List ℕ → ℕ → ℕ → ℕ → List ℕ

@@ -16,21 +16,20 @@ pub struct Control {
 
 // The control bytes of a frame on a grid of k columns; zero for those that a short frame does not
 // have.
+#[tactic(auto, unfolding(crate::specs::Frame::control_of))]
 pub fn control_of(frame_in: &[u8], k: u32) -> Control
     ensures { result ≡ control_of k frame_in.now }
 {
     let columns = k as usize;
-    let a = byte_at(frame_in, 1);
-    let b = byte_at(frame_in, columns + 3);
-    let c = byte_at(frame_in, 2 * columns + 5);
     Control {
-        jc1: a,
-        jc2: b,
-        jc3: c,
+        jc1: byte_at(frame_in, 1),
+        jc2: byte_at(frame_in, columns + 3),
+        jc3: byte_at(frame_in, 2 * columns + 5),
     }
 }
 
 // The PSI byte of a frame on a grid of k columns; zero where a short frame does not have it.
+#[tactic(auto, unfolding(crate::specs::Frame::psi_of))]
 pub fn psi_of(frame_in: &[u8], k: u32) -> u8
     ensures { result ≡ psi_of k frame_in.now }
 {
@@ -39,6 +38,7 @@ pub fn psi_of(frame_in: &[u8], k: u32) -> u8
 }
 
 // What was written to a frame is what is taken out of it, for every grid, count and load.
+#[tactic(auto, using(crate::proofs::Laws::client_taken_lem, crate::proofs::Laws::control_written, crate::proofs::Laws::psi_written))]
 pub fn frame_gives_back()
     ensures { FrameGivesBack }
 {}
@@ -47,5 +47,5 @@ pub fn frame_gives_back()
 fn byte_at(bytes: &[u8], i: usize) -> u8
     ensures { result ≡ get_or bytes.now i 0 }
 {
-    if i < bytes.len() { bytes[i] } else { 0 }
+    bytes.get(i).copied().unwrap_or(0)
 }

@@ -6,8 +6,8 @@ use Rattle.refusals.specs.Table.{Reason, reason, lowest, Answer, accepted, refus
 use Rattle.gmp_refusal.specs.Refusal.{refusal_number}
 use Rattle.gmp_settings.specs.Settings.{settings_reasons}
 use Rattle.gmp_settings.specs.Patterns.{bad_patterns}
-use Rattle.gmp_keeper.specs.declared.KeeperAnswer.{KeeperAnswer}
-use Rattle.gmp_keeper.specs.declared.KeeperAnswer.TheVariants.{Next, Refused}
+use Rattle.std.specs.Prelude.{Result, Ok, Err}
+use Rattle.gmp_refusal.specs.declared.Refusal.{Refusal}
 use Rattle.gmp_keeper.specs.declared.KeeperResult.{KeeperResult}
 
 -- number 3, divisor: "q is 0 or above 65,535"
@@ -37,9 +37,9 @@ pub record Kept : Type 0 where
   pub remainder : ℕ
 
 -- the paper's number and value for each case of the answer
-abbrev pub answer_meaning : KeeperAnswer → Answer ℕ
-answer_meaning (Next n) = accepted n
-answer_meaning (Refused r) = refused (refusal_number r)
+abbrev pub answer_meaning : Result ℕ Refusal → Answer ℕ
+answer_meaning (Ok n) = accepted n
+answer_meaning (Err r) = refused (refusal_number r)
 
 abbrev pub result_meaning : KeeperResult → Kept
 result_meaning r = record { answer = answer_meaning r.answer; remainder = r.remainder }

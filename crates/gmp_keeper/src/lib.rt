@@ -8,17 +8,10 @@ ghost use Rattle.gmp_keeper.specs.Nearest.{TotalsAreNearest};
 
 use gmp_refusal::Refusal;
 
-// The next count, or why the call is turned back.
-#[derive(Clone, Copy)]
-pub enum KeeperAnswer {
-    Next(u32),
-    Refused(Refusal),
-}
-
 // The answer, and the remainder to go on from.
 #[derive(Clone, Copy)]
 pub struct KeeperResult {
-    pub answer: KeeperAnswer,
+    pub answer: Result<u32, Refusal>,
     pub remainder: u32,
 }
 
@@ -26,12 +19,14 @@ pub struct KeeperResult {
 // total, and each lies in the window. So it is over every list of calls, refused ones among them,
 // in which each gets the remainder that the call before it returned and the accepted ones share p
 // and q.
+#[tactic(auto, using(crate::proofs::Sum::counts_add_up))]
 pub fn counts_add_up()
     ensures { CountsAddUp }
 {}
 
 // The first t counts of a new keeper add up, over such a list and for every q from 1 on, to the
 // whole number nearest to t times p / q, exact halves going up, and no other number is nearest.
+#[tactic(auto, using(crate::proofs::Sum::totals_are_nearest))]
 pub fn totals_are_nearest()
     ensures { TotalsAreNearest }
 {}

@@ -5,8 +5,8 @@ ghost use Rattle.std.specs.Prelude.{◌≡◌, ◌/◌};
 ghost use Rattle.gmp_refusal.specs.Refusal.{verdict_number};
 ghost use Rattle.gmp_keeper.specs.Keeper.{bad_divisor, bad_rate, keeper_refusal, result_meaning, keeper_call, first_remainder};
 
-use gmp_keeper::{KeeperAnswer, KeeperResult};
-use gmp_refusal::{Refusal, Verdict};
+use gmp_keeper::KeeperResult;
+use gmp_refusal::Refusal;
 use gmp_settings::Settings;
 
 // The remainder of a new keeper with the divisor q: half of q, rounded down, so that its total is
@@ -18,26 +18,27 @@ pub fn first_remainder(q: u32) -> u32
 }
 
 // The next count at the rate p / q from the remainder r. A refused call returns the remainder that
-// it was given.
+// it was given. p and q stand apart, as in the paper and in the theorem `ContractsPromise`.
+#[tactic(auto, using(gmp_refusal::proofs::Laws::refused_has_number, gmp_keeper::proofs::Laws::accepted_knows, gmp_keeper::proofs::Laws::total_lt, gmp_keeper::proofs::Laws::call_accepted, gmp_keeper::proofs::Laws::call_refused))]
 pub fn next_count(settings: Settings, p: u32, q: u32, r: u32) -> KeeperResult
     ensures { result_meaning result ≡ keeper_call settings p q r }
 {
-    let verdict = judge_call(settings, p, q, r);
-    let Verdict::Refused(refusal) = verdict else {
-        let total = r + p;
+    if let Err(refusal) = judge_call(settings, p, q, r) {
         return KeeperResult {
-            answer: KeeperAnswer::Next(total / q),
-            remainder: total % q,
+            answer: Err(refusal),
+            remainder: r,
         };
-    };
+    }
+    let total = r + p;
     KeeperResult {
-        answer: KeeperAnswer::Refused(refusal),
-        remainder: r,
+        answer: Ok(total / q),
+        remainder: total % q,
     }
 }
 
 // Numbers 1 to 5 and 14, in ascending order.
-fn judge_call(settings: Settings, p: u32, q: u32, r: u32) -> Verdict
+#[tactic(auto, unfolding(gmp_keeper::specs::Keeper::keeper_refusal))]
+fn judge_call(settings: Settings, p: u32, q: u32, r: u32) -> Result<(), Refusal>
     ensures { verdict_number result ≡ keeper_refusal settings p q r }
 {
     let fit = gmp_settings_judge::judge_grid_and_window(settings);
@@ -52,30 +53,19 @@ fn judge_call(settings: Settings, p: u32, q: u32, r: u32) -> Verdict
 fn is_bad_divisor(q: u32) -> bool
     ensures { result ≡ bad_divisor q }
 {
-    if q == 0 {
-        return true;
-    }
-    65535 < q
+    q == 0 || 65535 < q
 }
 
 // Number 4: the whole part of p / q is below lo, or p is above hi times q.
 fn is_bad_rate(settings: Settings, p: u32, q: u32) -> bool
     ensures { result ≡ bad_rate settings p q }
 {
-    let lo = settings.lo;
-    let hi = settings.hi;
-    if whole_part(p, q) < lo {
-        return true;
-    }
-    (hi as u64) * (q as u64) < p as u64
+    whole_part(p, q) < settings.lo || (settings.hi as u64) * (q as u64) < p as u64
 }
 
 // The whole part of p / q; 0 where q is 0.
 fn whole_part(p: u32, q: u32) -> u32
     ensures { result ≡ p / q }
 {
-    if q == 0 {
-        return 0;
-    }
-    p / q
+    p.checked_div(q).unwrap_or(0)
 }

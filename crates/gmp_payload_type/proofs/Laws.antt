@@ -1,13 +1,12 @@
 -- The cases of the rule for the accepted type, and what other crates cite of it. Assumes nothing.
-use mathlib.Core.Path.{◌≡◌, refl, ap, ap₂, ◌∙◌}
+use mathlib.Core.Path.{◌≡◌, refl, ap, ◌∙◌}
 use mathlib.Core.Bool.{Bool, true, false, cond, ◌&&◌}
 use mathlib.Core.List.{List, [], ◌∷◌}
 use Prim.Native.Nat.{ℕ, zero, suc, ◌+◌, ◌≤◌}
 use native.Mathlib.Omega.{arith}
 use lib.Dec.{eqb}
 use borrow.Author.Tests.{eq-eqb, eqb-true}
-use Rattle.gmp_payload_type.specs.declared.AcceptedType.{AcceptedType}
-use Rattle.gmp_payload_type.specs.declared.AcceptedType.TheVariants.{PayloadType}
+use Rattle.std.specs.Prelude.{Option, Some}
 use Rattle.gmp_payload_type.specs.declared.Seen.{Seen}
 use Rattle.gmp_payload_type.specs.declared.Seen.TheVariants.{Never, Once, Twice}
 use Rattle.gmp_payload_type.specs.declared.Types.{Types}
@@ -24,12 +23,6 @@ module _ (t : Types) (k : ℕ) where
   pub judged_seen : (judged t k).seen ≡ seen_after t.seen k
   unfolding judged
   judged_seen = refl
-
-  -- and both from code that works them out one by one
-  pub judged_parts : (a : AcceptedType) (n : Seen) → a ≡ accepted_after t.seen t.accepted k → n ≡ seen_after t.seen k
-      → record { accepted = a; seen = n } ≡ judged t k
-  unfolding judged
-  judged_parts a n e f = ap₂ (λ (x : AcceptedType) (y : Seen). record { accepted = x; seen = y }) e f
 
 -- the check off, and on
 module _ (t : Types) (e : Expected) where
@@ -67,26 +60,26 @@ twice t k =
     ∙ ap (λ (b : Bool). cond b (Twice k) (Once k)) (last_is (is_last t.seen k) k)
 
 -- where it was seen twice it is accepted by the next
-third : (t : Types) (k : ℕ) → t.seen ≡ Twice k → (judged t k).accepted ≡ PayloadType k
-third t k e = judged_accepted t k ∙ ap (λ (n : Seen). accepted_after n t.accepted k) e ∙ ap (λ (b : Bool). cond b (PayloadType k) t.accepted) (eq-eqb k k refl)
+third : (t : Types) (k : ℕ) → t.seen ≡ Twice k → (judged t k).accepted ≡ Some k
+third t k e = judged_accepted t k ∙ ap (λ (n : Seen). accepted_after n t.accepted k) e ∙ ap (λ (b : Bool). cond b (Some k) t.accepted) (eq-eqb k k refl)
 
 -- A type that is accepted stays so while it runs.
-chosen_same : (b : Bool) (a : AcceptedType) → cond b a a ≡ a
+chosen_same : (b : Bool) (a : Option ℕ) → cond b a a ≡ a
 chosen_same true a = refl
 chosen_same false a = refl
 
-stays_one : (n : Seen) (k : ℕ) → accepted_after n (PayloadType k) k ≡ PayloadType k
+stays_one : (n : Seen) (k : ℕ) → accepted_after n (Some k) k ≡ Some k
 stays_one Never k = refl
 stays_one (Once j) k = refl
-stays_one (Twice j) k = chosen_same (eqb j k) (PayloadType k)
+stays_one (Twice j) k = chosen_same (eqb j k) (Some k)
 
-pub stays : (n : ℕ) (t : Types) (k : ℕ) → t.accepted ≡ PayloadType k → (running n t k).accepted ≡ PayloadType k
+pub stays : (n : ℕ) (t : Types) (k : ℕ) → t.accepted ≡ Some k → (running n t k).accepted ≡ Some k
 stays zero t k e = e
 stays (suc n) t k e =
-    stays n (judged t k) k (judged_accepted t k ∙ ap (λ (a : AcceptedType). accepted_after t.seen a k) e ∙ stays_one t.seen k)
+    stays n (judged t k) k (judged_accepted t k ∙ ap (λ (a : Option ℕ). accepted_after t.seen a k) e ∙ stays_one t.seen k)
 
 -- Three or more running have it accepted, from any state.
-pub accepts_three : (n : ℕ) (t : Types) (k : ℕ) → 3 ≤ n → (running n t k).accepted ≡ PayloadType k
+pub accepts_three : (n : ℕ) (t : Types) (k : ℕ) → 3 ≤ n → (running n t k).accepted ≡ Some k
 accepts_three zero t k h = absurd (omega arith)
 accepts_three (suc zero) t k h = absurd (omega arith)
 accepts_three (suc (suc zero)) t k h = absurd (omega arith)
@@ -96,28 +89,28 @@ accepts_three (suc (suc (suc n))) t k h = stays n (judged (judged (judged t k) k
 second : (t : Types) (k : ℕ) → t.seen ≡ Once k → (judged t k).seen ≡ Twice k
 second t k e = judged_seen t k ∙ ap (λ (n : Seen). seen_after n k) e ∙ ap (λ (b : Bool). cond b (Twice k) (Once k)) (eq-eqb k k refl)
 
-after_twice : (n : ℕ) (t : Types) (k : ℕ) → t.seen ≡ Twice k → 1 ≤ n → (running n t k).accepted ≡ PayloadType k
+after_twice : (n : ℕ) (t : Types) (k : ℕ) → t.seen ≡ Twice k → 1 ≤ n → (running n t k).accepted ≡ Some k
 after_twice zero t k e h = absurd (omega arith)
 after_twice (suc n) t k e h = stays n (judged t k) k (third t k e)
 
-after_once : (n : ℕ) (t : Types) (k : ℕ) → t.seen ≡ Once k → 2 ≤ n → (running n t k).accepted ≡ PayloadType k
+after_once : (n : ℕ) (t : Types) (k : ℕ) → t.seen ≡ Once k → 2 ≤ n → (running n t k).accepted ≡ Some k
 after_once zero t k e h = absurd (omega arith)
 after_once (suc n) t k e h = after_twice n (judged t k) k (second t k e) (omega arith)
 
-by_seen : (n : ℕ) (t : Types) (seen : Seen) (k : ℕ) → t.seen ≡ seen → 3 ≤ times_seen seen k + n → (running n t k).accepted ≡ PayloadType k
+by_seen : (n : ℕ) (t : Types) (seen : Seen) (k : ℕ) → t.seen ≡ seen → 3 ≤ times_seen seen k + n → (running n t k).accepted ≡ Some k
 by_seen n t Never k e h = accepts_three n t k (omega arith)
 by_seen n t (Once j) k e h = by (eqb j k) refl h
   where
-    by : (b : Bool) → eqb j k ≡ b → 3 ≤ cond b 1 0 + n → (running n t k).accepted ≡ PayloadType k
+    by : (b : Bool) → eqb j k ≡ b → 3 ≤ cond b 1 0 + n → (running n t k).accepted ≡ Some k
     by true same more = after_once n t k (e ∙ ap Once (eqb-true _ _ same)) (omega arith)
     by false other more = accepts_three n t k (omega arith)
 by_seen n t (Twice j) k e h = by (eqb j k) refl h
   where
-    by : (b : Bool) → eqb j k ≡ b → 3 ≤ cond b 2 0 + n → (running n t k).accepted ≡ PayloadType k
+    by : (b : Bool) → eqb j k ≡ b → 3 ≤ cond b 2 0 + n → (running n t k).accepted ≡ Some k
     by true same more = after_twice n t k (e ∙ ap Twice (eqb-true _ _ same)) (omega arith)
     by false other more = accepts_three n t k (omega arith)
 
-pub accepts_third : (n : ℕ) (t : Types) (k : ℕ) → 3 ≤ times_seen t.seen k + n → (running n t k).accepted ≡ PayloadType k
+pub accepts_third : (n : ℕ) (t : Types) (k : ℕ) → 3 ≤ times_seen t.seen k + n → (running n t k).accepted ≡ Some k
 accepts_third n t k h = by_seen n t t.seen k refl h
 
 -- From a new sink on: what was seen last, of all the types that were judged,
@@ -140,13 +133,13 @@ all_seen (a ∷ b ∷ c ∷ ks) =
     ∙ ap (λ (x : Bool). cond x (Twice a) (Once a)) (last_seen_lem (eqb c b) b a)
 
 -- and the type that was accepted
-accepted_by : (c x : Bool) (k : ℕ) (a : AcceptedType) → cond x (cond c (PayloadType k) a) a ≡ cond (c && x) (PayloadType k) a
+accepted_by : (c x : Bool) (k : ℕ) (a : Option ℕ) → cond x (cond c (Some k) a) a ≡ cond (c && x) (Some k) a
 accepted_by true true k a = refl
 accepted_by true false k a = refl
 accepted_by false true k a = refl
 accepted_by false false k a = refl
 
-accepted_seen : (c : Bool) (j k : ℕ) (a : AcceptedType) → accepted_after (cond c (Twice j) (Once j)) a k ≡ cond c (cond (eqb j k) (PayloadType k) a) a
+accepted_seen : (c : Bool) (j k : ℕ) (a : Option ℕ) → accepted_after (cond c (Twice j) (Once j)) a k ≡ cond c (cond (eqb j k) (Some k) a) a
 accepted_seen true j k a = refl
 accepted_seen false j k a = refl
 
@@ -163,7 +156,7 @@ only_three (a ∷ b ∷ c ∷ ks) =
     ∙ ap (λ (n : Seen). accepted_after n before.accepted a) (all_seen (b ∷ c ∷ ks))
     ∙ accepted_seen (eqb c b) b a before.accepted
     ∙ accepted_by (eqb b a) (eqb c b) a before.accepted
-    ∙ ap (cond (eqb b a && eqb c b) (PayloadType a)) (only_three (b ∷ c ∷ ks))
+    ∙ ap (cond (eqb b a && eqb c b) (Some a)) (only_three (b ∷ c ∷ ks))
 
 pub three_running : ThreeRunning
 three_running = record { from_any = λ t k. accepts_three 3 t k (omega arith); only_three = only_three }

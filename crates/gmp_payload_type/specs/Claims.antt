@@ -1,8 +1,7 @@
 -- What the rule for the accepted type comes to, over all the types that were judged. Assumes
 -- nothing.
 use Rattle.std.specs.Prelude.{◌≡◌, cond, ◌&&◌, List, [], ◌∷◌, ℕ, eqb}
-use Rattle.gmp_payload_type.specs.declared.AcceptedType.{AcceptedType}
-use Rattle.gmp_payload_type.specs.declared.AcceptedType.TheVariants.{PayloadType, NoType}
+use Rattle.std.specs.Prelude.{Option, Some, None}
 use Rattle.gmp_payload_type.specs.declared.Types.{Types}
 use Rattle.gmp_payload_type.specs.Types.{new_types, judged}
 
@@ -12,14 +11,14 @@ judged_all [] = new_types
 judged_all (k ∷ ks) = judged (judged_all ks) k
 
 -- the type of the last three running that are the same, or none
-abbrev pub last_three : List ℕ → AcceptedType
-last_three [] = NoType
-last_three (a ∷ []) = NoType
-last_three (a ∷ b ∷ []) = NoType
-last_three (a ∷ b ∷ c ∷ ks) = cond (eqb b a && eqb c b) (PayloadType a) (last_three (b ∷ c ∷ ks))
+abbrev pub last_three : List ℕ → Option ℕ
+last_three [] = None
+last_three (a ∷ []) = None
+last_three (a ∷ b ∷ []) = None
+last_three (a ∷ b ∷ c ∷ ks) = cond (eqb b a && eqb c b) (Some a) (last_three (b ∷ c ∷ ks))
 
 -- From any state three frames running with one type have it accepted. And only three do: a new sink
 -- has accepted the last type that came three times running, and none where none did.
 pub record ThreeRunning : Type 0 where
-  pub from_any : (t : Types) (k : ℕ) → (judged (judged (judged t k) k) k).accepted ≡ PayloadType k
+  pub from_any : (t : Types) (k : ℕ) → (judged (judged (judged t k) k) k).accepted ≡ Some k
   pub only_three : (ks : List ℕ) → (judged_all ks).accepted ≡ last_three ks

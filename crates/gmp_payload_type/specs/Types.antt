@@ -1,8 +1,7 @@
 -- The payload type that a sink accepts, and whether it lets the client bytes pass (02, P4: "The
 -- payload type must count"). Assumes nothing.
 use Rattle.std.specs.Prelude.{Bool, true, false, cond, ◌&&◌, ℕ, ◌%◌, eqb}
-use Rattle.gmp_payload_type.specs.declared.AcceptedType.{AcceptedType}
-use Rattle.gmp_payload_type.specs.declared.AcceptedType.TheVariants.{PayloadType, NoType}
+use Rattle.std.specs.Prelude.{Option, Some, None}
 use Rattle.gmp_payload_type.specs.declared.Seen.{Seen}
 use Rattle.gmp_payload_type.specs.declared.Seen.TheVariants.{Never, Once, Twice}
 use Rattle.gmp_payload_type.specs.declared.Types.{Types}
@@ -10,7 +9,7 @@ use Rattle.gmp_payload_type.specs.declared.Expected.{Expected}
 
 -- a new sink has accepted no type and has seen none
 abbrev pub new_types : Types
-new_types = record { accepted = NoType; seen = Never }
+new_types = record { accepted = None; seen = Never }
 
 -- the last frame numbered 0 had this type
 abbrev pub is_last : Seen → ℕ → Bool
@@ -31,10 +30,10 @@ seen_after n k = cond (is_last n k) (Twice k) (Once k)
 
 -- "the same type in three such frames running .. becomes the accepted type, and until then the
 -- earlier one, or none, stands"
-abbrev pub accepted_after : Seen → AcceptedType → ℕ → AcceptedType
+abbrev pub accepted_after : Seen → Option ℕ → ℕ → Option ℕ
 accepted_after Never a k = a
 accepted_after (Once j) a k = a
-accepted_after (Twice j) a k = cond (eqb j k) (PayloadType k) a
+accepted_after (Twice j) a k = cond (eqb j k) (Some k) a
 
 unfoldable pub judged : Types → ℕ → Types
 judged t k = record { accepted = accepted_after t.seen t.accepted k; seen = seen_after t.seen k }
@@ -53,9 +52,9 @@ unfoldable pub types_after : Bool → Types → Expected → ℕ → Types
 types_after check t e psi = cond (check && numbered_zero e) (judged t psi) t
 
 -- the accepted type is this one
-abbrev pub is_accepted : AcceptedType → ℕ → Bool
-is_accepted (PayloadType j) k = eqb j k
-is_accepted NoType k = false
+abbrev pub is_accepted : Option ℕ → ℕ → Bool
+is_accepted (Some j) k = eqb j k
+is_accepted None k = false
 
 -- "While the accepted type is none or not the expected one, no bytes are handed out"; "off, all is
 -- as before"

@@ -1,6 +1,6 @@
 -- The rule in numbers (02, P4). Assumes nothing.
 use Rattle.std.specs.Prelude.{◌≡◌, refl, true, false, [], ◌∷◌, ℕ}
-use Rattle.gmp_payload_type.specs.declared.AcceptedType.TheVariants.{PayloadType, NoType}
+use Rattle.std.specs.Prelude.{Some, None}
 use Rattle.gmp_payload_type.specs.declared.Seen.TheVariants.{Once, Twice}
 use Rattle.gmp_payload_type.specs.declared.Types.{Types}
 use Rattle.gmp_payload_type.specs.declared.Expected.{Expected}
@@ -10,17 +10,17 @@ use Rattle.gmp_payload_type.specs.Claims.{judged_all}
 -- after the types 7, 7 none is accepted, after 7, 7, 7 type 7 is, and after 7, 7, 5, 7 none is (the
 -- last stands first)
 pub three :
-    ((judged_all (7 ∷ 7 ∷ [])).accepted ≡ NoType)
-    × ((judged_all (7 ∷ 7 ∷ 7 ∷ [])).accepted ≡ PayloadType 7)
-    × ((judged_all (7 ∷ 5 ∷ 7 ∷ 7 ∷ [])).accepted ≡ NoType)
+    ((judged_all (7 ∷ 7 ∷ [])).accepted ≡ None)
+    × ((judged_all (7 ∷ 7 ∷ 7 ∷ [])).accepted ≡ Some 7)
+    × ((judged_all (7 ∷ 5 ∷ 7 ∷ 7 ∷ [])).accepted ≡ None)
 unfolding judged
 three = (refl, refl, refl)
 
 -- type 7 stands while 5 has come twice, and goes with the third 5; type 0 is a type
 pub stands :
-    ((judged_all (5 ∷ 5 ∷ 7 ∷ 7 ∷ 7 ∷ [])).accepted ≡ PayloadType 7)
-    × ((judged_all (5 ∷ 5 ∷ 5 ∷ 7 ∷ 7 ∷ 7 ∷ [])).accepted ≡ PayloadType 5)
-    × ((judged_all (0 ∷ 0 ∷ 0 ∷ 7 ∷ 7 ∷ 7 ∷ [])).accepted ≡ PayloadType 0)
+    ((judged_all (5 ∷ 5 ∷ 7 ∷ 7 ∷ 7 ∷ [])).accepted ≡ Some 7)
+    × ((judged_all (5 ∷ 5 ∷ 5 ∷ 7 ∷ 7 ∷ 7 ∷ [])).accepted ≡ Some 5)
+    × ((judged_all (0 ∷ 0 ∷ 0 ∷ 7 ∷ 7 ∷ 7 ∷ [])).accepted ≡ Some 0)
 unfolding judged
 stands = (refl, refl, refl)
 
@@ -38,10 +38,10 @@ zero_frames_lem = (refl, refl, refl, refl)
 
 -- what is remembered where type 7 was accepted and came last, and the same with 5 accepted
 abbrev pub seven : Types
-seven = record { accepted = PayloadType 7; seen = Twice 7 }
+seven = record { accepted = Some 7; seen = Twice 7 }
 
 abbrev pub five : Types
-five = record { accepted = PayloadType 5; seen = Twice 7 }
+five = record { accepted = Some 5; seen = Twice 7 }
 
 -- with the type check off all bytes pass; with it on those at a sink that has accepted the expected
 -- type
@@ -59,6 +59,6 @@ pub read :
     (types_after true five (expects7 0) 7 ≡ seven)
     × (types_after true five (expects7 1) 7 ≡ five)
     × (types_after false five (expects7 0) 7 ≡ five)
-    × (types_after true new_types (expects7 0) 7 ≡ record { accepted = NoType; seen = Once 7 })
+    × (types_after true new_types (expects7 0) 7 ≡ record { accepted = None; seen = Once 7 })
 unfolding types_after judged
 read = (refl, refl, refl, refl)

@@ -6,13 +6,6 @@ ghost use Rattle.std.specs.Prelude.{◌≡◌};
 ghost use Rattle.gmp_payload_type.specs.Types.{new_types, is_last, seen_after, accepted_after, judged, types_after, gate_open};
 ghost use Rattle.gmp_payload_type.specs.Claims.{ThreeRunning};
 
-// The accepted type, or that there is none yet. Type 0 is a type.
-#[derive(Clone, Copy)]
-pub enum AcceptedType {
-    PayloadType(u8),
-    NoType,
-}
-
 // What the last frames numbered 0 had: none has come, one type came once, or the same twice or more
 // running.
 #[derive(Clone, Copy)]
@@ -22,10 +15,11 @@ pub enum Seen {
     Twice(u8),
 }
 
-// What a sink remembers of types. Every value is legal.
+// What a sink remembers of types: the accepted type, if there is one yet, and what came last. Type
+// 0 is a type. Every value is legal.
 #[derive(Clone, Copy)]
 pub struct Types {
-    pub accepted: AcceptedType,
+    pub accepted: Option<u8>,
     pub seen: Seen,
 }
 
@@ -42,21 +36,21 @@ pub fn new_types() -> Types
     ensures { result ≡ new_types }
 {
     Types {
-        accepted: AcceptedType::NoType,
+        accepted: None,
         seen: Seen::Never,
     }
 }
 
 // Whether the client bytes of a frame may be handed out: always where the type check is off, and
 // else where the accepted type is the expected one.
+#[tactic(auto, unfolding(crate::specs::Types::gate_open))]
 pub fn gate_open(type_check: bool, types: Types, expected: Expected) -> bool
     ensures { result ≡ gate_open type_check types expected }
 {
     if !type_check {
         return true;
     }
-    let accepted = types.accepted;
-    let AcceptedType::PayloadType(kept) = accepted else {
+    let Some(kept) = types.accepted else {
         return false;
     };
     kept == expected.payload_type
@@ -64,6 +58,7 @@ pub fn gate_open(type_check: bool, types: Types, expected: Expected) -> bool
 
 // What is remembered of types after a frame with this PSI byte, which is judged where the type
 // check is on and the frame is numbered 0.
+#[tactic(auto, unfolding(crate::specs::Types::types_after))]
 pub fn read_psi(type_check: bool, types: Types, expected: Expected, psi: u8) -> Types
     ensures { result ≡ types_after type_check types expected psi }
 {
@@ -77,24 +72,24 @@ pub fn read_psi(type_check: bool, types: Types, expected: Expected, psi: u8) -> 
 }
 
 // Three running have a type accepted from any state, and from a new sink on only three do.
+#[tactic(auto, using(crate::proofs::Laws::three_running))]
 pub fn three_running()
     ensures { ThreeRunning }
 {}
 
 // What is remembered after one more frame numbered 0.
+#[tactic(auto, unfolding(crate::specs::Types::judged))]
 fn judge(types: Types, psi: u8) -> Types
     ensures { result ≡ judged types psi }
 {
-    let accepted = types.accepted;
-    let seen = types.seen;
     Types {
-        accepted: accepted_after(seen, accepted, psi),
-        seen: seen_after(seen, psi),
+        accepted: accepted_after(types.seen, types.accepted, psi),
+        seen: seen_after(types.seen, psi),
     }
 }
 
 // The third such frame running has its type accepted; until then the earlier one, or none, stands.
-fn accepted_after(seen: Seen, accepted: AcceptedType, psi: u8) -> AcceptedType
+fn accepted_after(seen: Seen, accepted: Option<u8>, psi: u8) -> Option<u8>
     ensures { result ≡ accepted_after seen accepted psi }
 {
     match seen {
@@ -102,7 +97,7 @@ fn accepted_after(seen: Seen, accepted: AcceptedType, psi: u8) -> AcceptedType
         Seen::Once(_) => accepted,
         Seen::Twice(last) => {
             if last == psi {
-                return AcceptedType::PayloadType(psi);
+                return Some(psi);
             }
             accepted
         }

@@ -6,6 +6,7 @@ ghost use Rattle.gmp_places.specs.Places.{PlacesCounted};
 ghost use Rattle.gmp_places.specs.Even.{BytesLieEvenly};
 
 // There are exactly C places, and among the first n exactly the whole part of n * C / S.
+#[tactic(auto, using(crate::proofs::Laws::places_are, crate::proofs::Laws::places_all))]
 pub fn places_counted()
     ensures { PlacesCounted }
 {}
@@ -13,6 +14,7 @@ pub fn places_counted()
 // On every grid from K = 1 on, with a count C of at most S, the client bytes in any run of L
 // successive payload bytes of one frame differ from L * C / S by less than one, and no smaller
 // figure holds.
+#[tactic(auto, using(crate::proofs::Even::lie_evenly))]
 pub fn bytes_lie_evenly()
     ensures { BytesLieEvenly }
 {}

@@ -6,8 +6,7 @@ use native.Mathlib.Omega.{arith}
 use lib.Dec.{eqb, lit≤}
 use Rattle.gmp_refusal.specs.declared.Refusal.{Refusal}
 use Rattle.gmp_refusal.specs.declared.Refusal.TheVariants.{Grid, Window, Divisor, Rate, State, Count, Client, Frame, Space, Port, Patterns}
-use Rattle.gmp_refusal.specs.declared.Verdict.{Verdict}
-use Rattle.gmp_refusal.specs.declared.Verdict.TheVariants.{Accepted, Refused}
+use Rattle.std.specs.Prelude.{Result, Ok, Err}
 use Rattle.gmp_refusal.specs.Refusal.{refusal_number, refusal_place, verdict_number}
 
 -- a refusal has a number
@@ -25,41 +24,41 @@ refusal_number_pos Port e = omega arith
 refusal_number_pos Patterns e = omega arith
 
 -- so a refused verdict has one
-pub refused_has_number : (v : Verdict) (r : Refusal) (n : ℕ) → verdict_number v ≡ n → v ≡ Refused r → n ≡ 0 → ⊥
+pub refused_has_number : (v : Result (Unit {0}) Refusal) (r : Refusal) (n : ℕ) → verdict_number v ≡ n → v ≡ Err r → n ≡ 0 → ⊥
 refused_has_number v r n e is-refused z = refusal_number_pos r (sym (ap verdict_number is-refused) ∙ e ∙ z)
 
 -- the verdict of a number: none but its own has it
-abbrev verdict_of : ℕ → Verdict
+abbrev verdict_of : ℕ → Result (Unit {0}) Refusal
 verdict_of n =
-    cond (eqb n 0) Accepted
-    (cond (eqb n 1) (Refused Grid)
-    (cond (eqb n 2) (Refused Window)
-    (cond (eqb n 3) (Refused Divisor)
-    (cond (eqb n 4) (Refused Rate)
-    (cond (eqb n 5) (Refused State)
-    (cond (eqb n 6) (Refused Count)
-    (cond (eqb n 7) (Refused Client)
-    (cond (eqb n 8) (Refused Frame)
-    (cond (eqb n 9) (Refused Space)
-    (cond (eqb n 10) (Refused Port)
-    (Refused Patterns)))))))))))
+    cond (eqb n 0) (Ok tt)
+    (cond (eqb n 1) (Err Grid)
+    (cond (eqb n 2) (Err Window)
+    (cond (eqb n 3) (Err Divisor)
+    (cond (eqb n 4) (Err Rate)
+    (cond (eqb n 5) (Err State)
+    (cond (eqb n 6) (Err Count)
+    (cond (eqb n 7) (Err Client)
+    (cond (eqb n 8) (Err Frame)
+    (cond (eqb n 9) (Err Space)
+    (cond (eqb n 10) (Err Port)
+    (Err Patterns)))))))))))
 
-verdict_back : (v : Verdict) → verdict_of (verdict_number v) ≡ v
-verdict_back Accepted = refl
-verdict_back (Refused Grid) = refl
-verdict_back (Refused Window) = refl
-verdict_back (Refused Divisor) = refl
-verdict_back (Refused Rate) = refl
-verdict_back (Refused State) = refl
-verdict_back (Refused Count) = refl
-verdict_back (Refused Client) = refl
-verdict_back (Refused Frame) = refl
-verdict_back (Refused Space) = refl
-verdict_back (Refused Port) = refl
-verdict_back (Refused Patterns) = refl
+verdict_back : (v : Result (Unit {0}) Refusal) → verdict_of (verdict_number v) ≡ v
+verdict_back (Ok tt) = refl
+verdict_back (Err Grid) = refl
+verdict_back (Err Window) = refl
+verdict_back (Err Divisor) = refl
+verdict_back (Err Rate) = refl
+verdict_back (Err State) = refl
+verdict_back (Err Count) = refl
+verdict_back (Err Client) = refl
+verdict_back (Err Frame) = refl
+verdict_back (Err Space) = refl
+verdict_back (Err Port) = refl
+verdict_back (Err Patterns) = refl
 
 -- so a promise about the number of a verdict is one about the verdict
-pub same_number : (v w : Verdict) → verdict_number v ≡ verdict_number w → v ≡ w
+pub same_number : (v w : Result (Unit {0}) Refusal) → verdict_number v ≡ verdict_number w → v ≡ w
 same_number v w e = sym (verdict_back v) ∙ ap verdict_of e ∙ verdict_back w
 
 -- the numbers are the places up to 10, and 14 is the eleventh
@@ -82,7 +81,7 @@ placed Port = record { low = λ h. omega arith; high = λ h. omega arith; last =
 placed Patterns = record { low = λ h. omega arith; high = λ h. omega arith; last = lit≤ tt }
 
 -- so it is with a verdict that refuses, and the place n of its refusal
-module _ {v : Verdict} {r : Refusal} {n : ℕ} (refuses : v ≡ Refused r) (place : n ≡ refusal_place r) where
+module _ {v : Result (Unit {0}) Refusal} {r : Refusal} {n : ℕ} (refuses : v ≡ Err r) (place : n ≡ refusal_place r) where
   pub low_number : n < 11 → n ≡ verdict_number v
   low_number h = place ∙ (placed r).low (omega (arith, place)) ∙ sym (ap verdict_number refuses)
 

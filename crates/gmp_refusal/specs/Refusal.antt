@@ -3,8 +3,7 @@
 use Rattle.std.specs.Prelude.{List, [], ◌∷◌, ℕ}
 use Rattle.gmp_refusal.specs.declared.Refusal.{Refusal}
 use Rattle.gmp_refusal.specs.declared.Refusal.TheVariants.{Grid, Window, Divisor, Rate, State, Count, Client, Frame, Space, Port, Patterns}
-use Rattle.gmp_refusal.specs.declared.Verdict.{Verdict}
-use Rattle.gmp_refusal.specs.declared.Verdict.TheVariants.{Accepted, Refused}
+use Rattle.std.specs.Prelude.{Result, Ok, Err}
 
 -- the paper's number of each refusal
 abbrev pub refusal_number : Refusal → ℕ
@@ -50,6 +49,6 @@ refusal_name Patterns = 112 ∷ 97 ∷ 116 ∷ 116 ∷ 101 ∷ 114 ∷ 110 ∷ 1
 
 -- the number of a verdict; an accepted call has none of the paper's numbers, which begin at 1, and
 -- is 0 here
-abbrev pub verdict_number : Verdict → ℕ
-verdict_number Accepted = 0
-verdict_number (Refused r) = refusal_number r
+abbrev pub verdict_number : Result (Unit {0}) Refusal → ℕ
+verdict_number (Ok tt) = 0
+verdict_number (Err r) = refusal_number r

@@ -1,4 +1,5 @@
 // The refusals of the mapper's calls: their numbers and names, and a verdict made line by line.
+// What a call's checks come to is a verdict: `Ok(())`, or why the call is turned back.
 #![tactic(auto)]
 
 ghost use Rattle.std.specs.Prelude.{◌≡◌};
@@ -22,14 +23,8 @@ pub enum Refusal {
     Patterns,
 }
 
-// What a call's checks come to.
-#[derive(Clone, Copy)]
-pub enum Verdict {
-    Accepted,
-    Refused(Refusal),
-}
-
-// The names of the refusals in the order of their numbers, each in 8 bytes, and their lengths.
+// The names of the refusals in the order of their numbers, each in 8 bytes, and their lengths. One
+// text and its lengths, and no array of texts: `program_name::name_of` promises of such a text.
 pub const NAMES: [u8; 88] =
     *b"grid    window  divisor rate    state   count   client  frame   space   port    patterns";
 
@@ -37,24 +32,26 @@ pub const NAME_LENGTHS: [usize; 11] = [4, 6, 7, 4, 5, 5, 6, 5, 5, 4, 8];
 
 // The verdict with one more line of the paper's table: a refusal so far stands, and an accepted
 // call is refused where the line's condition applies.
-pub fn refuse_if(verdict: Verdict, applies: bool, refusal: Refusal) -> Verdict
+pub fn refuse_if(
+    verdict: Result<(), Refusal>,
+    applies: bool,
+    refusal: Refusal,
+) -> Result<(), Refusal>
     ensures { verdict_number result ≡ with_line (verdict_number verdict) (reason (refusal_number refusal) applies) }
 {
-    let Verdict::Accepted = verdict else {
-        return verdict;
-    };
+    verdict?;
     if applies {
-        return Verdict::Refused(refusal);
+        return Err(refusal);
     }
-    Verdict::Accepted
+    Ok(())
 }
 
 // The paper's number of a verdict, 0 for an accepted call. The number is worked from the place, so
 // that the library holds no table of numbers.
-pub fn refusal_number(verdict: Verdict) -> u32
+pub fn refusal_number(verdict: Result<(), Refusal>) -> u32
     ensures { result ≡ verdict_number verdict }
 {
-    let Verdict::Refused(refusal) = verdict else {
+    let Err(refusal) = verdict else {
         return 0;
     };
     let place = refusal_place(refusal);
@@ -64,7 +61,8 @@ pub fn refusal_number(verdict: Verdict) -> u32
     place + 3
 }
 
-// The place of a refusal in the order of their numbers, from 1.
+// The place of a refusal in the order of their numbers, from 1, for the programs, which take a name
+// out of `NAMES` by it.
 pub fn refusal_place(refusal: Refusal) -> u32
     ensures { result ≡ refusal_place refusal }
 {

@@ -1,10 +1,12 @@
 // The numbers of a row, by which the placing goes through it: where its stuffing bytes or its
 // client bytes stand, in parts of a byte. A row has k payload bytes, the frame has c client bytes,
-// and r is the row, from 0. They are told of one of four rows below 2^17 bytes that leave room for
-// stuffing; of other numbers nothing is promised.
+// and r is the row, from 0. They go apart: a struct of them would be made for one call each time.
+// They are told of one of four rows below 2^17 bytes that leave room for stuffing; of other numbers
+// nothing is promised.
 #![tactic(auto)]
 
-ghost use Rattle.std.specs.Prelude.{◌≡◌, ◌&&◌, cond, ℕ, ◌+◌, ◌-◌, ◌*◌, ◌/◌, ◌%◌, ◌≤◌, ◌<◌, ltb};
+ghost use Rattle.std.specs.Prelude.{ℕ, ◌+◌, ◌*◌, ◌/◌, ◌≤◌, ◌<◌, ◌↔◌, IsTrue};
+ghost use Rattle.gmp_row.specs.Row.{Told, RunsOf, SinglesOf};
 
 // As many parts has a byte, 2^40: in rows below 2^17 bytes a place told in them lies in the right
 // byte.
@@ -37,34 +39,30 @@ pub struct RowSingles {
 // less than a d-th of a byte. The numbers are picked before they are used, not the answer after:
 // so the compiler sees that a block is 16 or 32 bytes wide (DECISIONS 119).
 pub fn row_runs(k: usize, c: usize, r: usize) -> RowRuns
-    ensures { (c < 4 * k) → (r < 4) → (k < 131072) → (result.before ≡ (r * (4 * k - c) + 3) / 4)
-        × (result.parts ≡ (4 * result.before - r * (4 * k - c)) * (k * 1099511627776 / (4 * k - c) + 1))
-        × (result.hop ≡ 4 * (k * 1099511627776 / (4 * k - c) + 1))
-        × (16 ≤ result.width) × (result.width ≤ 32)
-        × ((x : ℕ) → x < result.stop → (c ≤ result.width * (4 * k - c)) × (2 * (x / 1099511627776) + 3 * result.width < 2 * k)) }
+    ensures { Told k c r → RunsOf k c r result }
 {
-    let told = is_told(k, c, r);
-    runs_of(picked(told, k, 1), picked(told, c, 3), picked(told, r, 0))
+    let (k, c, r) = if is_told(k, c, r) {
+        (k, c, r)
+    } else {
+        (1, 3, 0)
+    };
+    runs_of(k, c, r)
 }
 
 // The stuffing bytes of a row that is told.
 fn runs_of(k: usize, c: usize, r: usize) -> RowRuns
-    requires { (c < 4 * k) × (r < 4) × (k < 131072) }
-    ensures { (result.before ≡ (r * (4 * k - c) + 3) / 4)
-        × (result.parts ≡ (4 * result.before - r * (4 * k - c)) * (k * 1099511627776 / (4 * k - c) + 1))
-        × (result.hop ≡ 4 * (k * 1099511627776 / (4 * k - c) + 1))
-        × (16 ≤ result.width) × (result.width ≤ 32)
-        × ((x : ℕ) → x < result.stop → (c ≤ result.width * (4 * k - c)) × (2 * (x / 1099511627776) + 3 * result.width < 2 * k)) }
+    requires { Told k c r }
+    ensures { RunsOf k c r result }
 {
     let d = 4 * k - c;
     let quarter = k * PARTS / d + 1;
     let width = width_for(c, d);
     let before = (r * d + 3) / 4;
     RowRuns {
-        before: before,
+        before,
         parts: (4 * before - r * d) * quarter,
         hop: 4 * quarter,
-        width: width,
+        width,
         stop: blocks_stop(k, c, d, width),
     }
 }
@@ -75,10 +73,7 @@ fn width_for(c: usize, d: usize) -> usize
     requires { (c < 4294967296) × (d < 4294967296) }
     ensures { (16 ≤ result) × (result ≤ 32) × ((c ≤ 32 * d) → (c ≤ result * d)) }
 {
-    if c <= 16 * d {
-        return 16;
-    }
-    32
+    if c <= 16 * d { 16 } else { 32 }
 }
 
 // Up to where blocks have room, in parts: behind the next stuffing byte at least a block and a half
@@ -88,11 +83,8 @@ fn blocks_stop(k: usize, c: usize, d: usize, width: usize) -> usize
     requires { (k < 131072) × (d < 4294967296) × (width ≤ 32) }
     ensures { (x : ℕ) → x < result → (c ≤ 32 * d) × (2 * (x / 1099511627776) + 3 * width < 2 * k) }
 {
-    if c > 32 * d {
-        return 0;
-    }
     let room = width + width / 2;
-    if k <= room {
+    if c > 32 * d || k <= room {
         return 0;
     }
     (k - room) * PARTS
@@ -103,20 +95,22 @@ fn blocks_stop(k: usize, c: usize, d: usize, width: usize) -> usize
 // from the row's start, that end is rounded down, by less than a c-th of a byte, and one part is
 // taken off.
 pub fn row_singles(k: usize, c: usize, r: usize) -> RowSingles
-    ensures { (c < 4 * k) → (r < 4) → (k < 131072) → (0 < c) → (result.first ≡ r * c / 4) × (result.end ≡ (r * c + c) / 4)
-        × (result.parts + 1 ≡ (4 - r * c % 4) * (k * 1099511627776 / c))
-        × (result.hop ≡ 4 * (k * 1099511627776 / c)) }
+    ensures { Told k c r → 0 < c → SinglesOf k c r result }
 {
-    let told = has_singles(k, c, r);
-    singles_of(picked(told, k, 1), picked(told, c, 3), picked(told, r, 0))
+    // The choice of `row_runs`, but for a frame with no client byte: one function for both would
+    // take the test as an argument.
+    let (k, c, r) = if c > 0 && is_told(k, c, r) {
+        (k, c, r)
+    } else {
+        (1, 3, 0)
+    };
+    singles_of(k, c, r)
 }
 
 // The client bytes of a row that is told and has some.
 fn singles_of(k: usize, c: usize, r: usize) -> RowSingles
-    requires { (c < 4 * k) × (r < 4) × (k < 131072) × (0 < c) }
-    ensures { (result.first ≡ r * c / 4) × (result.end ≡ (r * c + c) / 4)
-        × (result.parts + 1 ≡ (4 - r * c % 4) * (k * 1099511627776 / c))
-        × (result.hop ≡ 4 * (k * 1099511627776 / c)) }
+    requires { Told k c r × (0 < c) }
+    ensures { SinglesOf k c r result }
 {
     let quarter = k * PARTS / c;
     let quarters = r * c;
@@ -128,35 +122,9 @@ fn singles_of(k: usize, c: usize, r: usize) -> RowSingles
     }
 }
 
-// Whether a row is told: one of four, below 2^17 bytes, with room for stuffing.
+// Whether a row is told.
 fn is_told(k: usize, c: usize, r: usize) -> bool
-    ensures { result ≡ (ltb k 131072 && (ltb r 4 && ltb c (4 * k))) }
+    ensures { IsTrue result ↔ Told k c r }
 {
-    if k >= 131072 {
-        return false;
-    }
-    if r >= 4 {
-        return false;
-    }
-    c < 4 * k
-}
-
-// Whether it is such a row, and the frame has a client byte.
-fn has_singles(k: usize, c: usize, r: usize) -> bool
-    ensures { result ≡ (ltb 0 c && (ltb k 131072 && (ltb r 4 && ltb c (4 * k)))) }
-{
-    if c == 0 {
-        return false;
-    }
-    is_told(k, c, r)
-}
-
-// The number itself if the row is told, or else one that is a row's.
-fn picked(told: bool, number: usize, other: usize) -> usize
-    ensures { result ≡ cond told number other }
-{
-    if told {
-        return number;
-    }
-    other
+    k < 131072 && r < 4 && c < 4 * k
 }

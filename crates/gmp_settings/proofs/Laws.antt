@@ -1,5 +1,5 @@
 -- What callers cite of the settings. Assumes nothing.
-use mathlib.Core.Path.{◌≡◌, refl}
+use mathlib.Core.Path.{◌≡◌}
 use mathlib.Core.Bool.{false}
 use mathlib.Core.List.{List, ◌++◌}
 use Prim.Native.Nat.{ℕ, ◌≤◌}
@@ -8,14 +8,10 @@ use lib.Dec.{ltb, eqb, lit<}
 use borrow.Author.Tests.{ltb-false, eqb-false}
 use Rattle.math.proofs.Choice.{neither}
 use Rattle.refusals.specs.Table.{Reason, lowest}
-use Rattle.refusals.proofs.Laws.{none_applies, Judged}
+use Rattle.refusals.proofs.Laws.{none_applies}
 use Rattle.gmp_settings.specs.declared.Settings.{Settings}
 use Rattle.gmp_settings.specs.Grid.{payload_bytes}
 use Rattle.gmp_settings.specs.Settings.{widest_grid, bad_grid, bad_window, settings_reasons, outside, Fit}
-
--- a judge begins with lines 1 and 2
-pub settings_judged : (s : Settings) {answer : ℕ} → answer ≡ lowest (settings_reasons s) → Judged answer (settings_reasons s)
-settings_judged s e = record { by = e; up = refl }
 
 -- settings that pass lines 1 and 2
 pub settings_fit : (s : Settings) → lowest (settings_reasons s) ≡ 0 → Fit s

@@ -18,7 +18,8 @@ pub struct Settings {
     pub type_check: bool,
 }
 
-// The standard's patterns, or four that are given.
+// The standard's patterns, or four that are given. Not an Option: no card is without patterns, and
+// None would say so.
 #[derive(Clone, Copy)]
 pub enum Patterns {
     Standard,
@@ -40,9 +41,9 @@ pub fn new_settings(k: u32, lo: u32, hi: u32) -> Settings
     ensures { result ≡ new_settings k lo hi }
 {
     Settings {
-        k: k,
-        lo: lo,
-        hi: hi,
+        k,
+        lo,
+        hi,
         patterns: Patterns::Standard,
         mending: false,
         type_check: false,
@@ -54,12 +55,8 @@ pub fn with_patterns(settings: Settings, four: FourPatterns) -> Settings
     ensures { result ≡ with_patterns settings four }
 {
     Settings {
-        k: settings.k,
-        lo: settings.lo,
-        hi: settings.hi,
         patterns: Patterns::Given(four),
-        mending: settings.mending,
-        type_check: settings.type_check,
+        ..settings
     }
 }
 
@@ -67,18 +64,21 @@ pub fn with_patterns(settings: Settings, four: FourPatterns) -> Settings
 pub fn with_mending(settings: Settings, mending: bool) -> Settings
     ensures { result ≡ with_mending settings mending }
 {
-    let mut after = settings;
-    after.mending = mending;
-    after
+    Settings {
+        mending,
+        ..settings
+    }
 }
 
-// The same settings with the type check on or off.
+// The same settings with the type check on or off. A function over the field for this and the one
+// above would be no plainer: each is one line.
 pub fn with_type_check(settings: Settings, type_check: bool) -> Settings
     ensures { result ≡ with_type_check settings type_check }
 {
-    let mut after = settings;
-    after.type_check = type_check;
-    after
+    Settings {
+        type_check,
+        ..settings
+    }
 }
 
 // The settings of OPU0.

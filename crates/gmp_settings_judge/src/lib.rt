@@ -9,16 +9,16 @@ ghost use Rattle.gmp_settings.specs.Grid.{frame_bytes};
 ghost use Rattle.gmp_settings.specs.Settings.{bad_grid, bad_window, settings_reasons, outside};
 ghost use Rattle.gmp_settings.specs.Patterns.{breaks_rule, exceeds, bad_patterns};
 
-use gmp_refusal::{Refusal, Verdict};
+use gmp_refusal::Refusal;
 use gmp_settings::{FourPatterns, Patterns, Settings};
 
 // Numbers 1 and 2: the checks that every call begins with. Number 14 comes after a call's own.
-pub fn judge_grid_and_window(settings: Settings) -> Verdict
+pub fn judge_grid_and_window(settings: Settings) -> Result<(), Refusal>
     ensures { verdict_number result ≡ lowest (settings_reasons settings) }
 {
     let bad_grid = is_bad_grid(settings);
     let bad_window = is_bad_window(settings);
-    let grid = gmp_refusal::refuse_if(Verdict::Accepted, bad_grid, Refusal::Grid);
+    let grid = gmp_refusal::refuse_if(Ok(()), bad_grid, Refusal::Grid);
     gmp_refusal::refuse_if(grid, bad_window, Refusal::Window)
 }
 
@@ -26,37 +26,24 @@ pub fn judge_grid_and_window(settings: Settings) -> Verdict
 fn is_bad_grid(settings: Settings) -> bool
     ensures { result ≡ bad_grid settings }
 {
-    let k = settings.k;
-    if k == 0 {
-        return true;
-    }
-    3808 < k
+    settings.k == 0 || 3808 < settings.k
 }
 
 // Number 2: lo is above hi, or hi above the four rows' payload bytes.
 fn is_bad_window(settings: Settings) -> bool
     ensures { result ≡ bad_window settings }
 {
-    let lo = settings.lo;
-    let hi = settings.hi;
-    if hi < lo {
-        return true;
-    }
-    4 * (settings.k as usize) < hi as usize
+    settings.hi < settings.lo || 4 * (settings.k as usize) < settings.hi as usize
 }
 
 // Number 14, the last check of a call: four given patterns break the rule or exceed 14 bits.
 pub fn is_bad_patterns(settings: Settings) -> bool
     ensures { result ≡ bad_patterns settings }
 {
-    let patterns = settings.patterns;
-    let Patterns::Given(four) = patterns else {
-        return false;
-    };
-    if breaks_rule(four) {
-        return true;
+    match settings.patterns {
+        Patterns::Standard => false,
+        Patterns::Given(four) => breaks_rule(four) || exceeds(four),
     }
-    exceeds(four)
 }
 
 // The exclusive-or of the two plus patterns is not that of the two minus patterns, or is zero.
@@ -65,38 +52,22 @@ fn breaks_rule(four: FourPatterns) -> bool
 {
     let plus = four.plus1 ^ four.plus2;
     let minus = four.minus1 ^ four.minus2;
-    if plus != minus {
-        return true;
-    }
-    plus == 0
+    plus != minus || plus == 0
 }
 
 // A pattern exceeds 14 bits.
 fn exceeds(four: FourPatterns) -> bool
     ensures { result ≡ exceeds four }
 {
-    if 16383 < four.plus1 {
-        return true;
-    }
-    if 16383 < four.minus1 {
-        return true;
-    }
-    if 16383 < four.plus2 {
-        return true;
-    }
-    16383 < four.minus2
+    16383 < four.plus1 || 16383 < four.minus1 || 16383 < four.plus2 || 16383 < four.minus2
 }
 
 // Whether a count lies outside the window.
+#[tactic(auto, unfolding(gmp_settings::specs::Settings::outside))]
 pub fn is_outside(settings: Settings, count: u32) -> bool
     ensures { result ≡ outside settings count }
 {
-    let lo = settings.lo;
-    let hi = settings.hi;
-    if count < lo {
-        return true;
-    }
-    hi < count
+    count < settings.lo || settings.hi < count
 }
 
 // The length of a frame on the settings' grid.

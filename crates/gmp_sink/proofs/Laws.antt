@@ -28,8 +28,7 @@ use Rattle.gmp_standing.specs.declared.Count.TheVariants.{Known, Unknown}
 use Rattle.gmp_standing.specs.declared.Standing.{Standing}
 use Rattle.gmp_standing.specs.Standing.{Finding, finding, BADCHECK, standing_meaning}
 use Rattle.gmp_standing.specs.Known.{in_window}
-use Rattle.gmp_control.specs.declared.Remembered.{Remembered}
-use Rattle.gmp_control.specs.declared.Remembered.TheVariants.{Word, Nothing}
+use Rattle.std.specs.Prelude.{Option, Some, None, Ok, Err}
 use Rattle.gmp_control.specs.Word.{word_by}
 use Rattle.gmp_control.specs.Follow.{usable, reached, windowed_by, windowed, found_by, found}
 use Rattle.gmp_control.specs.Pattern.{table_of}
@@ -41,7 +40,6 @@ use Rattle.gmp_payload_type.specs.declared.Expected.{Expected}
 use Rattle.gmp_payload_type.specs.Types.{types_after, gate_open}
 use Rattle.gmp_payload_type.proofs.Laws.{open_off, types_off}
 use Rattle.gmp_sink.specs.declared.SinkState.{SinkState}
-use Rattle.gmp_sink.specs.declared.SinkAnswer.TheVariants.{Done, Refused}
 use Rattle.gmp_sink.specs.declared.SinkResult.{SinkResult}
 use Rattle.gmp_sink.specs.Sink.{new_sink, sink_reasons, sink_refusal, handed, released, checked_in, standing_by, standing_after, word_after, state_after, with_types, frame_after, is_mended, mended_in, answer_meaning, sink_answer, sink_state, sink_mended, sink_handed, sink_out, SinkPromise, UncheckedAsBefore, CountsFollowed, AnyPort, OffAsBefore}
 
@@ -185,7 +183,7 @@ unchecked_as_before =
     record {
       state = λ s z w frame out p off. unchecked_state s z frame w out p off;
       types = λ s z w frame out p off. ap (λ (x : SinkState). x.types) (unchecked_state s z frame w out p off) ∙ same_types s z frame w out p (eqb (sink_refusal s (length frame) (length out) p) 0);
-      handed_bytes_lem = λ s z w frame out p off. unchecked_handed s z frame w out p off;
+      handed_bytes = λ s z w frame out p off. unchecked_handed s z frame w out p off;
     }
 
 module _ (s : Settings) (z : SinkState) (c : Control) (r : CheckedWord) (e : checked_in s c ≡ r) where
@@ -209,10 +207,10 @@ module _ (s : Settings) (z : SinkState) (c : Control) where
   count_after_lem = refl
 
 -- a state by its three parts
-pub state_of_parts : (count : Count) (word : Remembered) (types : Types) (x : SinkState) → count ≡ x.count → word ≡ x.word → types ≡ x.types
+pub state_of_parts : (count : Count) (word : Option ℕ) (types : Types) (x : SinkState) → count ≡ x.count → word ≡ x.word → types ≡ x.types
     → record { count = count; word = word; types = types } ≡ x
 state_of_parts count word types x e f g =
-    ap₂ (λ (c : Count) (w : Remembered). record { count = c; word = w; types = types }) e f ∙ ap (with_types x) g
+    ap₂ (λ (c : Count) (w : Option ℕ). record { count = c; word = w; types = types }) e f ∙ ap (with_types x) g
 
 -- A call that no number turns back is not refused, and its standing is what the control bytes lead
 -- to.
@@ -221,13 +219,13 @@ module _ {s : Settings} {z : SinkState} {w : Expected} {frame out : List ℕ} {p
   answered : answer_meaning r.answer ≡ accepted (standing_after s z (control_of s.k frame))
   answered = p.answer ∙ answer_accepted s z frame out port none
 
-  pub never_refused : (x : Refusal) → r.answer ≡ Refused x → ⊥
+  pub never_refused : (x : Refusal) → r.answer ≡ Err x → ⊥
   never_refused x e =
       let o : refused (refusal_number x) ≡ accepted (standing_after s z (control_of s.k frame)) = sym (ap answer_meaning e) ∙ answered in
       let zero : ◌≡◌ {A = ℕ} 0 1 = cc in
       omega arith
 
-  pub done_says : (x : Standing) → r.answer ≡ Done x → standing_meaning x ≡ standing_after s z (control_of s.k frame)
+  pub done_says : (x : Standing) → r.answer ≡ Ok x → standing_meaning x ≡ standing_after s z (control_of s.k frame)
   done_says x e =
       let o : accepted (standing_meaning x) ≡ accepted (standing_after s z (control_of s.k frame)) = sym (ap answer_meaning e) ∙ answered in
       cc
@@ -290,7 +288,7 @@ any_port =
       answer = λ s z frame out p q e. any_answer s p q e z frame out;
       state = λ s z w frame out p q e. any_state s p q e z frame out w;
       mended = λ s frame out p q e. any_mended s p q e frame out;
-      handed_bytes_lem = λ s z w frame out p q e. any_handed s p q e z frame out w;
+      handed_bytes = λ s z w frame out p q e. any_handed s p q e z frame out w;
       out_buffer = λ s z w frame out p q e. any_out s p q e z frame out w;
     }
 
@@ -306,7 +304,7 @@ module _ (s : Settings) (b : Bool) where
   unchecked_windowed f (Known n) = refl
   unchecked_windowed f Unknown = refl
 
-  unchecked_found : (c : Count) (before : Remembered) (w : ℕ) → found (with_type_check s b) c before w ≡ found s c before w
+  unchecked_found : (c : Count) (before : Option ℕ) (w : ℕ) → found (with_type_check s b) c before w ≡ found s c before w
   unfolding found_by table_of
   unchecked_found c before w =
       let f : Finding = reached (table_of s) (in_window s c) (usable before) w in
@@ -376,7 +374,7 @@ off_as_before =
           ∙ off_reading (λ (r : CheckedWord). standing_by s z r ≡ cond (passes c.jc1 c.jc2 c.jc3) (found s z.count z.word (word_by c.jc1 c.jc2)) (finding BADCHECK Unknown))
           s c off (λ e. rw e) (λ e. rw e);
       word = λ s z c off. word_read s z c (checked_in s c) refl
-          ∙ off_reading (λ (r : CheckedWord). word_after r ≡ cond (passes c.jc1 c.jc2 c.jc3) (usable (Word (word_by c.jc1 c.jc2))) Nothing)
+          ∙ off_reading (λ (r : CheckedWord). word_after r ≡ cond (passes c.jc1 c.jc2 c.jc3) (usable (Some (word_by c.jc1 c.jc2))) None)
           s c off (λ e. rw e) (λ e. rw e);
       none_mended = λ s c off. mended_read s new_sink c (checked_in s c) refl ∙ off_reading (λ (r : CheckedWord). is_mended r ≡ false) s c off (λ e. refl) (λ e. refl);
     }

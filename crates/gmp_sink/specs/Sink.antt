@@ -17,8 +17,9 @@ use Rattle.gmp_standing.specs.declared.Count.{Count}
 use Rattle.gmp_standing.specs.declared.Count.TheVariants.{Known, Unknown}
 use Rattle.gmp_standing.specs.Standing.{Finding, finding, BADCHECK, standing_meaning}
 use Rattle.gmp_standing.specs.Known.{in_window}
-use Rattle.gmp_control.specs.declared.Remembered.{Remembered}
-use Rattle.gmp_control.specs.declared.Remembered.TheVariants.{Word, Nothing}
+use Rattle.std.specs.Prelude.{Option, Result, Some, None, Ok, Err}
+use Rattle.gmp_refusal.specs.declared.Refusal.{Refusal}
+use Rattle.gmp_standing.specs.declared.Standing.{Standing}
 use Rattle.gmp_control.specs.Word.{word_by}
 use Rattle.gmp_control.specs.Follow.{usable, found}
 use Rattle.gmp_frame.specs.declared.Control.{Control}
@@ -27,14 +28,12 @@ use Rattle.gmp_payload_type.specs.declared.Types.{Types}
 use Rattle.gmp_payload_type.specs.declared.Expected.{Expected}
 use Rattle.gmp_payload_type.specs.Types.{new_types, types_after, gate_open}
 use Rattle.gmp_sink.specs.declared.SinkState.{SinkState}
-use Rattle.gmp_sink.specs.declared.SinkAnswer.{SinkAnswer}
-use Rattle.gmp_sink.specs.declared.SinkAnswer.TheVariants.{Done, Refused}
 use Rattle.gmp_sink.specs.declared.SinkResult.{SinkResult}
 
 -- "a known count or none, and a remembered word or none; a new sink has neither", and it has
 -- accepted no payload type (02, P4)
 abbrev pub new_sink : SinkState
-new_sink = record { count = Unknown; word = Nothing; types = new_types }
+new_sink = record { count = Unknown; word = None; types = new_types }
 
 -- A call's own lines: 8, "frame buffer not exactly 4K + 8 bytes"; 9, "output buffer shorter than
 -- hi"; 10, "a port that is 0 or above 8, after number 9" (02, P2: "each sink call names its port");
@@ -79,10 +78,10 @@ unfoldable pub standing_after : Settings → SinkState → Control → Finding
 standing_after s z c = standing_by s z (checked_in s c)
 
 -- the word that is remembered: that which was read, mended or not, where II ≠ DI
-abbrev pub word_after : CheckedWord → Remembered
-word_after (Whole w) = usable (Word (word_by w.jc1 w.jc2))
-word_after (Mended w) = usable (Word (word_by w.jc1 w.jc2))
-word_after Bad = Nothing
+abbrev pub word_after : CheckedWord → Option ℕ
+word_after (Whole w) = usable (Some (word_by w.jc1 w.jc2))
+word_after (Mended w) = usable (Some (word_by w.jc1 w.jc2))
+word_after Bad = None
 
 -- the state after these control bytes: what was found, and the word
 unfoldable pub state_after : Settings → SinkState → Control → SinkState
@@ -114,13 +113,13 @@ pub record OffAsBefore : Type 0 where
   pub standing : (s : Settings) (z : SinkState) (c : Control) → s.mending ≡ false
       → standing_after s z c ≡ cond (passes c.jc1 c.jc2 c.jc3) (found s z.count z.word (word_by c.jc1 c.jc2)) (finding BADCHECK Unknown)
   pub word : (s : Settings) (z : SinkState) (c : Control) → s.mending ≡ false
-      → (state_after s z c).word ≡ cond (passes c.jc1 c.jc2 c.jc3) (usable (Word (word_by c.jc1 c.jc2))) Nothing
+      → (state_after s z c).word ≡ cond (passes c.jc1 c.jc2 c.jc3) (usable (Some (word_by c.jc1 c.jc2))) None
   pub none_mended : (s : Settings) (c : Control) → s.mending ≡ false → mended_in s c ≡ false
 
 -- the paper's number and values for each case of the answer
-abbrev pub answer_meaning : SinkAnswer → Answer Finding
-answer_meaning (Done x) = accepted (standing_meaning x)
-answer_meaning (Refused r) = refused (refusal_number r)
+abbrev pub answer_meaning : Result Standing Refusal → Answer Finding
+answer_meaning (Ok x) = accepted (standing_meaning x)
+answer_meaning (Err r) = refused (refusal_number r)
 
 -- the answer of a call
 unfoldable pub sink_answer : Settings → SinkState → List ℕ → List ℕ → ℕ → Answer Finding
@@ -147,7 +146,7 @@ sink_out s z e frame out port = sink_handed s z e frame out port ++ drop (length
 pub record SinkPromise (s : Settings) (z : SinkState) (e : Expected) (frame out : List ℕ) (port : ℕ) (r : SinkResult) (after : List ℕ) : Type 0 where
   pub answer : answer_meaning r.answer ≡ sink_answer s z frame out port
   pub state : r.state ≡ sink_state s z e frame out port
-  pub handed_bytes_lem : r.handed ≡ length (sink_handed s z e frame out port)
+  pub handed_bytes : r.handed ≡ length (sink_handed s z e frame out port)
   pub mended : r.mended ≡ sink_mended s frame out port
   pub out_buffer : after ≡ sink_out s z e frame out port
 
@@ -159,7 +158,7 @@ pub record UncheckedAsBefore : Type 0 where
       → sink_state s z e frame out port ≡ cond (eqb (sink_refusal s (length frame) (length out) port) 0) (state_after s z (control_of s.k frame)) z
   pub types : (s : Settings) (z : SinkState) (e : Expected) (frame out : List ℕ) (port : ℕ) → s.type_check ≡ false
       → (sink_state s z e frame out port).types ≡ z.types
-  pub handed_bytes_lem : (s : Settings) (z : SinkState) (e : Expected) (frame out : List ℕ) (port : ℕ) → s.type_check ≡ false
+  pub handed_bytes : (s : Settings) (z : SinkState) (e : Expected) (frame out : List ℕ) (port : ℕ) → s.type_check ≡ false
       → sink_handed s z e frame out port ≡ cond (eqb (sink_refusal s (length frame) (length out) port) 0) (handed s z frame) []
 
 -- "though counts are followed" (02, P4). Whether the type is checked, what is remembered of types
@@ -183,5 +182,5 @@ pub record AnyPort : Type 0 where
   pub answer : (s : Settings) (z : SinkState) (frame out : List ℕ) (p q : ℕ) → bad_port p ≡ bad_port q → sink_answer s z frame out p ≡ sink_answer s z frame out q
   pub state : (s : Settings) (z : SinkState) (e : Expected) (frame out : List ℕ) (p q : ℕ) → bad_port p ≡ bad_port q → sink_state s z e frame out p ≡ sink_state s z e frame out q
   pub mended : (s : Settings) (frame out : List ℕ) (p q : ℕ) → bad_port p ≡ bad_port q → sink_mended s frame out p ≡ sink_mended s frame out q
-  pub handed_bytes_lem : (s : Settings) (z : SinkState) (e : Expected) (frame out : List ℕ) (p q : ℕ) → bad_port p ≡ bad_port q → sink_handed s z e frame out p ≡ sink_handed s z e frame out q
+  pub handed_bytes : (s : Settings) (z : SinkState) (e : Expected) (frame out : List ℕ) (p q : ℕ) → bad_port p ≡ bad_port q → sink_handed s z e frame out p ≡ sink_handed s z e frame out q
   pub out_buffer : (s : Settings) (z : SinkState) (e : Expected) (frame out : List ℕ) (p q : ℕ) → bad_port p ≡ bad_port q → sink_out s z e frame out p ≡ sink_out s z e frame out q

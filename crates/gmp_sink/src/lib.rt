@@ -6,7 +6,7 @@
 ghost use Rattle.std.specs.Prelude.{◌≡◌};
 ghost use Rattle.gmp_sink.specs.Sink.{new_sink, AnyPort, OffAsBefore, UncheckedAsBefore, CountsFollowed};
 
-use gmp_control::{Followed, Remembered};
+use gmp_control::Followed;
 use gmp_payload_type::Types;
 use gmp_refusal::Refusal;
 use gmp_standing::{Count, Standing};
@@ -15,22 +15,15 @@ use gmp_standing::{Count, Standing};
 #[derive(Clone, Copy)]
 pub struct SinkState {
     pub count: Count,
-    pub word: Remembered,
+    pub word: Option<u32>,
     pub types: Types,
-}
-
-// The standing after the frame, or why the call is turned back.
-#[derive(Clone, Copy)]
-pub enum SinkAnswer {
-    Done(Standing),
-    Refused(Refusal),
 }
 
 // The answer, the state to go on from, the number of bytes handed out, and whether a wrong control
 // bit was mended.
 #[derive(Clone, Copy)]
 pub struct SinkResult {
-    pub answer: SinkAnswer,
+    pub answer: Result<Standing, Refusal>,
     pub state: SinkState,
     pub handed: u32,
     pub mended: bool,
@@ -49,30 +42,34 @@ pub fn new_sink() -> SinkState
 {
     SinkState {
         count: Count::Unknown,
-        word: Remembered::Nothing,
+        word: None,
         types: gmp_payload_type::new_types(),
     }
 }
 
 // But for number 10 the port has no part in what a call answers, mends and hands out, and in the
 // state and the output buffer after it.
+#[tactic(auto, using(crate::proofs::Laws::any_port))]
 pub fn any_port()
     ensures { AnyPort }
 {}
 
 // With the type check off, what a call hands out and the state after it are what they were without
 // it, whatever the call is told, and what is remembered of types stays.
+#[tactic(auto, using(crate::proofs::Laws::unchecked_as_before))]
 pub fn unchecked_as_before()
     ensures { UncheckedAsBefore }
 {}
 
 // Counts are followed whatever the types are: the type check, what is remembered of types and what
 // the call is told have no part in its answer and in the count and the word that it leaves.
+#[tactic(auto, using(crate::proofs::Laws::counts_followed))]
 pub fn counts_followed()
     ensures { CountsFollowed }
 {}
 
 // With mending off the control bytes lead where 01's rules lead, and nothing is mended.
+#[tactic(auto, using(crate::proofs::Laws::off_as_before))]
 pub fn off_as_before()
     ensures { OffAsBefore }
 {}

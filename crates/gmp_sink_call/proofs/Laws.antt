@@ -42,7 +42,7 @@ promise_accepted s z w frame out p r after none a =
     record {
       answer = a.reads.answer_is ∙ sym (answer_accepted s z frame out p none);
       state = a.reads.state_is ∙ sym (state_accepted s z frame w out p none);
-      handed_bytes_lem = a.hands.length_is ∙ sym (ap length (handed_accepted s z frame w out p none));
+      handed_bytes = a.hands.length_is ∙ sym (ap length (handed_accepted s z frame w out p none));
       mended = a.reads.mended_is ∙ sym (mended_accepted s z frame out p none);
       out_buffer = a.hands.buffer ∙ sym (out_accepted s z frame w out p none);
     }

@@ -6,7 +6,9 @@ use Rattle.gmp_settings.specs.declared.Settings.{Settings}
 use Rattle.gmp_frame.specs.Frame.{control_of}
 use Rattle.gmp_payload_type.specs.declared.Expected.{Expected}
 use Rattle.gmp_sink.specs.declared.SinkState.{SinkState}
-use Rattle.gmp_sink.specs.declared.SinkAnswer.{SinkAnswer}
+use Rattle.std.specs.Prelude.{Result}
+use Rattle.gmp_refusal.specs.declared.Refusal.{Refusal}
+use Rattle.gmp_standing.specs.declared.Standing.{Standing}
 use Rattle.gmp_sink.specs.declared.SinkResult.{SinkResult}
 use Rattle.gmp_sink.specs.Sink.{released, standing_after, frame_after, mended_in, answer_meaning}
 
@@ -16,7 +18,7 @@ pub record HandsOut (bytes out : List ℕ) (r : ℕ) (after : List ℕ) : Type 0
   pub buffer : after ≡ bytes ++ drop (length bytes) out
 
 -- what the control word and the PSI byte of a frame lead to
-pub record ReadsFrame (s : Settings) (z : SinkState) (e : Expected) (frame : List ℕ) (answer : SinkAnswer) (state : SinkState) (mended : Bool) : Type 0 where
+pub record ReadsFrame (s : Settings) (z : SinkState) (e : Expected) (frame : List ℕ) (answer : Result Standing Refusal) (state : SinkState) (mended : Bool) : Type 0 where
   pub answer_is : answer_meaning answer ≡ accepted (standing_after s z (control_of s.k frame))
   pub state_is : state ≡ frame_after s z e frame
   pub mended_is : mended ≡ mended_in s (control_of s.k frame)

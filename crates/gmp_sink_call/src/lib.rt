@@ -9,22 +9,24 @@ ghost use Rattle.gmp_sink.proofs.Laws.{Accepted};
 ghost use Rattle.gmp_sink_call.specs.Parts.{HandsOut, ReadsFrame, AcceptedPromise};
 
 use gmp_payload_type::Expected;
-use gmp_refusal::Verdict;
+use gmp_refusal::Refusal;
 use gmp_settings::Settings;
-use gmp_sink::{SinkAnswer, SinkResult, SinkState};
-use gmp_standing::Count;
+use gmp_sink::{SinkResult, SinkState};
+use gmp_standing::{Count, Standing};
 
 // What a frame leads to: the answer, the state to go on from, and whether a wrong control bit was
 // mended.
 #[derive(Clone, Copy)]
 struct FrameRead {
-    answer: SinkAnswer,
+    answer: Result<Standing, Refusal>,
     state: SinkState,
     mended: bool,
 }
 
 // Takes a frame of this port, told its multiframe number and the payload type that is expected. A
-// refused call returns the state that it was given and leaves the output buffer as it was.
+// refused call returns the state that it was given and leaves the output buffer as it was. The
+// arguments are those of the paper's call and of its definition, one by one: a struct made for the
+// one call would be no plainer.
 pub fn take_frame(
     settings: Settings,
     state: SinkState,
@@ -35,20 +37,20 @@ pub fn take_frame(
 ) -> SinkResult
     ensures { SinkPromise settings state expected frame.now out.old port result out.new }
 {
-    let verdict = gmp_sink_judge::judge_call(settings, frame.len(), out.len(), port);
-    let Verdict::Refused(refusal) = verdict else {
-        return take_accepted(settings, state, expected, frame, out);
-    };
-    SinkResult {
-        answer: SinkAnswer::Refused(refusal),
-        state: state,
-        handed: 0,
-        mended: false,
+    if let Err(refusal) = gmp_sink_judge::judge_call(settings, frame.len(), out.len(), port) {
+        return SinkResult {
+            answer: Err(refusal),
+            state,
+            handed: 0,
+            mended: false,
+        };
     }
+    take_accepted(settings, state, expected, frame, out)
 }
 
 // The same if nothing is refused, whatever the port. First the client bytes are handed out, by the
-// count and the payload type that were known before the frame, and then the frame is read.
+// count and the payload type that were known before the frame, and then the frame is read. That the
+// lengths are accepted is said of three values that are lent apart, so no type can hold it.
 fn take_accepted(
     settings: Settings,
     state: SinkState,
@@ -119,7 +121,7 @@ fn read_frame(settings: Settings, state: SinkState, expected: Expected, frame: &
     let before = state.types;
     let types = gmp_payload_type::read_psi(settings.type_check, before, expected, psi);
     FrameRead {
-        answer: SinkAnswer::Done(standing),
+        answer: Ok(standing),
         state: SinkState {
             count: count,
             word: word,

@@ -4,14 +4,15 @@
 
 ghost use Rattle.gmp_sink_control.specs.Control.{FollowsWord, ReadsControl};
 
-use gmp_control::{Followed, Remembered};
-use gmp_crc8::{CheckedWord, ReadWord};
+use gmp_control::Followed;
+use gmp_crc8::{CheckedWord, WordBytes};
 use gmp_frame::Control;
 use gmp_settings::Settings;
 use gmp_sink::{ControlRead, SinkState};
 use gmp_standing::{Count, Standing};
 
 // Rules 1 to 3: what the control bytes lead to, and whether a bit of them was mended.
+#[tactic(auto, using(gmp_sink::proofs::Laws::standing_read, gmp_sink::proofs::Laws::word_read, gmp_sink::proofs::Laws::mended_read, gmp_sink::proofs::Laws::count_after_lem))]
 pub fn read_control(settings: Settings, state: SinkState, control: Control) -> ControlRead
     ensures { ReadsControl settings state control result }
 {
@@ -23,7 +24,7 @@ pub fn read_control(settings: Settings, state: SinkState, control: Control) -> C
             followed: Followed {
                 standing: Standing::BadCheck,
                 count: Count::Unknown,
-                word: Remembered::Nothing,
+                word: None,
             },
             mended: false,
         },
@@ -31,7 +32,7 @@ pub fn read_control(settings: Settings, state: SinkState, control: Control) -> C
 }
 
 // Rules 2 and 3: what a word that was read leads to from this state, and whether it was mended.
-fn follow_word(settings: Settings, state: SinkState, word: ReadWord, mended: bool) -> ControlRead
+fn follow_word(settings: Settings, state: SinkState, word: WordBytes, mended: bool) -> ControlRead
     ensures { FollowsWord settings state word mended result }
 {
     let count = state.count;

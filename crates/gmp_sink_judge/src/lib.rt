@@ -5,11 +5,17 @@ ghost use Rattle.std.specs.Prelude.{◌≡◌};
 ghost use Rattle.gmp_refusal.specs.Refusal.{verdict_number};
 ghost use Rattle.gmp_sink.specs.Sink.{sink_refusal};
 
-use gmp_refusal::{Refusal, Verdict};
+use gmp_refusal::Refusal;
 use gmp_settings::Settings;
 
 // Numbers 1, 2, 8, 9, 10 and 14, for a frame and an output buffer of these lengths and this port.
-pub fn judge_call(settings: Settings, frame_length: usize, space: usize, port: u32) -> Verdict
+#[tactic(auto, unfolding(gmp_sink::specs::Sink::sink_refusal))]
+pub fn judge_call(
+    settings: Settings,
+    frame_length: usize,
+    space: usize,
+    port: u32,
+) -> Result<(), Refusal>
     ensures { verdict_number result ≡ sink_refusal settings frame_length space port }
 {
     let fit = gmp_settings_judge::judge_grid_and_window(settings);

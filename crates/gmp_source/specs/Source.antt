@@ -7,7 +7,7 @@ use Rattle.refusals.specs.Table.{Reason, reason, lowest, Answer, accepted, refus
 use Rattle.gmp_refusal.specs.Refusal.{refusal_number, verdict_number}
 use Rattle.gmp_settings.specs.Settings.{settings_reasons, outside}
 use Rattle.gmp_settings.specs.Patterns.{bad_patterns}
-use Rattle.gmp_control.specs.declared.WordBytes.{WordBytes}
+use Rattle.gmp_crc8.specs.declared.WordBytes.{WordBytes}
 use Rattle.gmp_control.specs.Word.{word_bytes}
 use Rattle.gmp_control.specs.Pattern.{table_of}
 use Rattle.gmp_control.specs.Announce.{announced}
@@ -15,8 +15,8 @@ use Rattle.gmp_frame.specs.declared.Control.{Control}
 use Rattle.gmp_frame.specs.Frame.{frame}
 use Rattle.gmp_source.specs.declared.SourceState.{SourceState}
 use Rattle.gmp_source.specs.declared.SourceResult.{SourceResult}
-use Rattle.gmp_source.specs.declared.SourceStart.{SourceStart}
-use Rattle.gmp_source.specs.declared.SourceStart.TheVariants.{New, Refused}
+use Rattle.std.specs.Prelude.{Result, Ok, Err}
+use Rattle.gmp_refusal.specs.declared.Refusal.{Refusal}
 
 -- number 5, state: "source count outside the window", for a new source: its first count; and number
 -- 14 (02, P11)
@@ -41,9 +41,9 @@ unfoldable pub new_source : Settings → ℕ → ℕ → Answer SourceState
 new_source s first payloadType = answer_by (start_refusal s first) (start_state first payloadType)
 
 -- the paper's number and value for each case of the answer
-abbrev pub start_meaning : SourceStart → Answer SourceState
-start_meaning (New z) = accepted z
-start_meaning (Refused r) = refused (refusal_number r)
+abbrev pub start_meaning : Result SourceState Refusal → Answer SourceState
+start_meaning (Ok z) = accepted z
+start_meaning (Err r) = refused (refusal_number r)
 
 -- A call's own lines: 5, "source count outside the window"; 6, "next count outside the window"; 7,
 -- "client bytes not exactly the present count"; 8, "frame buffer not exactly 4K + 8 bytes"; and 14

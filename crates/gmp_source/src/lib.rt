@@ -7,7 +7,7 @@ ghost use Rattle.refusals.specs.Table.{lowest};
 ghost use Rattle.gmp_refusal.specs.Refusal.{verdict_number};
 ghost use Rattle.gmp_source.specs.Source.{state_reasons, start_refusal, new_source, start_meaning};
 
-use gmp_refusal::{Refusal, Verdict};
+use gmp_refusal::Refusal;
 use gmp_settings::Settings;
 
 // The present count, the multiframe number and the payload type.
@@ -19,37 +19,29 @@ pub struct SourceState {
     pub payload_type: u8,
 }
 
-// A new source, or why there is none.
-#[derive(Clone, Copy)]
-pub enum SourceStart {
-    New(SourceState),
-    Refused(Refusal),
-}
-
 // Whether the call was accepted, and the state to go on from.
 #[derive(Clone, Copy)]
 pub struct SourceResult {
-    pub answer: Verdict,
+    pub answer: Result<(), Refusal>,
     pub state: SourceState,
 }
 
 // A new source with this first count and this payload type.
-pub fn new_source(settings: Settings, first: u32, payload_type: u8) -> SourceStart
+#[tactic(auto, unfolding(crate::specs::Source::new_source))]
+pub fn new_source(settings: Settings, first: u32, payload_type: u8) -> Result<SourceState, Refusal>
     ensures { start_meaning result ≡ new_source settings first payload_type }
 {
-    let verdict = judge_start(settings, first);
-    let Verdict::Refused(refusal) = verdict else {
-        return SourceStart::New(SourceState {
-            count: first,
-            multiframe: 0,
-            payload_type: payload_type,
-        });
-    };
-    SourceStart::Refused(refusal)
+    judge_start(settings, first)?;
+    Ok(SourceState {
+        count: first,
+        multiframe: 0,
+        payload_type,
+    })
 }
 
 // Numbers 1, 2, 5 and 14, for the first count of a new source.
-fn judge_start(settings: Settings, first: u32) -> Verdict
+#[tactic(auto, unfolding(crate::specs::Source::start_refusal))]
+fn judge_start(settings: Settings, first: u32) -> Result<(), Refusal>
     ensures { verdict_number result ≡ start_refusal settings first }
 {
     let state = judge_grid_window_and_state(settings, first);
@@ -58,7 +50,7 @@ fn judge_start(settings: Settings, first: u32) -> Verdict
 }
 
 // Numbers 1, 2 and 5, for the first count of a new source or the present one of a call.
-pub fn judge_grid_window_and_state(settings: Settings, count: u32) -> Verdict
+pub fn judge_grid_window_and_state(settings: Settings, count: u32) -> Result<(), Refusal>
     ensures { verdict_number result ≡ lowest (state_reasons settings count) }
 {
     let fit = gmp_settings_judge::judge_grid_and_window(settings);

@@ -6,7 +6,7 @@ ghost use Rattle.gmp_refusal.specs.Refusal.{verdict_number};
 ghost use Rattle.gmp_source.specs.Source.{source_refusal, psi, control_bytes, SourcePromise};
 
 use gmp_frame::Control;
-use gmp_refusal::{Refusal, Verdict};
+use gmp_refusal::Refusal;
 use gmp_settings::Settings;
 use gmp_source::{SourceResult, SourceState};
 
@@ -22,17 +22,16 @@ pub fn source_call(
 ) -> SourceResult
     ensures { SourcePromise settings state next client.now buffer.old result buffer.new }
 {
-    let verdict = judge_call(settings, state, next, client.len(), buffer.len());
-    let Verdict::Accepted = verdict else {
+    if let Err(refusal) = judge_call(settings, state, next, client.len(), buffer.len()) {
         return SourceResult {
-            answer: verdict,
-            state: state,
+            answer: Err(refusal),
+            state,
         };
-    };
+    }
     let control = control_bytes(settings, state.count, next);
     gmp_frame_write::write_frame(buffer, settings.k, client, control, psi_byte(state));
     SourceResult {
-        answer: Verdict::Accepted,
+        answer: Ok(()),
         state: SourceState {
             count: next,
             multiframe: (state.multiframe % 256 + 1) % 256,
@@ -48,7 +47,7 @@ fn judge_call(
     next: u32,
     client_length: usize,
     frame_length: usize,
-) -> Verdict
+) -> Result<(), Refusal>
     ensures { verdict_number result ≡ source_refusal settings state next client_length frame_length }
 {
     let present = state.count;
@@ -63,6 +62,7 @@ fn judge_call(
 }
 
 // JC1 to JC3 of the word that announces the next count.
+#[tactic(auto, unfolding(gmp_source::specs::Source::control_bytes))]
 fn control_bytes(settings: Settings, old: u32, next: u32) -> Control
     ensures { result ≡ control_bytes settings old next }
 {

@@ -8,8 +8,9 @@ ghost use Rattle.gmp_standing.specs.Known.{in_window};
 
 use gmp_settings::Settings;
 
-// A count, where it is known.
-#[derive(Clone, Copy)]
+// A count, where it is known. It stays an enum of its own: 01 names its two cases in "Where each
+// language form belongs".
+#[derive(Clone, Copy, PartialEq, Eq)]
 pub enum Count {
     Known(u32),
     Unknown,
@@ -26,12 +27,14 @@ pub enum Standing {
     Outside,
 }
 
-// The names of the standings in the order of their numbers, each in 8 bytes, and their lengths.
+// The names of the standings in the order of their numbers, each in 8 bytes, and their lengths. One
+// text and its lengths, and no array of texts: `program_name::name_of` promises of such a text.
 pub const NAMES: [u8; 48] = *b"READ    TRACKED PAIRED  BADCHECKWAITING OUTSIDE ";
 
 pub const NAME_LENGTHS: [usize; 6] = [4, 7, 6, 8, 7, 7];
 
 // The count, where it is known and inside the window.
+#[tactic(auto, unfolding(crate::specs::Known::in_window))]
 pub fn known_count(settings: Settings, count: Count) -> Count
     ensures { result ≡ in_window settings count }
 {
@@ -58,7 +61,7 @@ pub fn found_count(standing: Standing) -> Count
     }
 }
 
-// The number of a standing, 1 to 6.
+// The number of a standing, 1 to 6, for C and for the programs, which know standings by numbers.
 pub fn standing_number(standing: Standing) -> u32
     ensures { result ≡ standing_number (standing_meaning standing).name }
 {

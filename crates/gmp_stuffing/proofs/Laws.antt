@@ -1,12 +1,10 @@
 -- What other crates cite: what is left in a row's buffer where all fits. Assumes nothing.
 use mathlib.Core.Path.{◌≡◌}
-use mathlib.Core.Bool.{true, ◌&&◌}
+use mathlib.Core.Bool.{true}
 use mathlib.Core.List.{List}
 use Prim.Native.Nat.{ℕ, ◌*◌, ◌≤◌, ◌<◌}
 use lib.ListN.{length}
-use lib.Dec.{ltb, leb}
-use borrow.Author.Tests.{ltb-true, leb-true, lt-ltb, le-leb}
-use Rattle.math.proofs.Choice.{both_true}
+use borrow.Author.Tests.{lt-ltb, le-leb}
 use Rattle.gmp_settings.specs.Grid.{payload_bytes}
 use Rattle.gmp_stuffing.specs.Row.{row_fits, row_bytes, row_client, row_placed, row_taken}
 
@@ -14,13 +12,6 @@ use Rattle.gmp_stuffing.specs.Row.{row_fits, row_bytes, row_client, row_placed, 
 pub fits_where : (k r C : ℕ) → k < 4294967296 → r < 4 → C ≤ payload_bytes k → row_fits k r C ≡ true
 unfolding row_fits
 fits_where k r C lt row le = rw (lt-ltb k 4294967296 lt, lt-ltb r 4 row, le-leb C (4 * k) le)
-
-pub fits_gives : (k r C : ℕ) → row_fits k r C ≡ true → (k < 4294967296) × (r < 4) × (C ≤ payload_bytes k)
-unfolding row_fits
-fits_gives k r C e =
-    let (lt, rest) = both_true (ltb k 4294967296) (ltb r 4 && leb C (4 * k)) e in
-    let (row, le) = both_true (ltb r 4) (leb C (4 * k)) rest in
-    (ltb-true k 4294967296 lt, ltb-true r 4 row, leb-true C (4 * k) le)
 
 -- the buffer of one of four rows holds its payload bytes, where the client bytes fit
 pub placed_fits : (k r : ℕ) (client part : List ℕ) → length part ≡ k → row_fits k r (length client) ≡ true → row_placed r client part ≡ row_bytes k r client

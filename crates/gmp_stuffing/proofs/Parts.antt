@@ -1,18 +1,10 @@
 -- Places told in parts of a byte: w * k / D in whole parts, of which a byte has 2^40, rounded up or
 -- down. As long as w * D is below 2^40 they lead to the same byte. Assumes nothing.
 use mathlib.Core.Path.{◌≡◌}
-use mathlib.Core.Bool.{true, ◌&&◌}
 use Prim.Native.Nat.{ℕ, ◌+◌, ◌*◌, ◌/◌, ◌≤◌, ◌<◌}
 use native.Mathlib.Nat.{add-mul, div-mul-le_self, lt-div-mul-add, lt_of_mul-lt-mul_right, mul-add, mul_assoc, mul-le-mul_left, mul-le-mul_right, mul-lt-mul_of_pos_right, mul_right_comm}
 use native.Mathlib.Omega.{arith}
-use lib.Dec.{ltb, leb}
-use borrow.Author.Tests.{ltb-true, leb-true}
-use Rattle.math.proofs.Choice.{both_true}
 use Rattle.gmp_row.proofs.Rows.{U}
-
--- the rows whose places are told so
-pub in_parts : {k : ℕ} → (leb 16 k && ltb k 131072) ≡ true → (16 ≤ k) × (k < 131072)
-in_parts {k} e = let (ge, lt) = both_true (leb 16 k) (ltb k 131072) e in (leb-true 16 k ge, ltb-true k 131072 lt)
 
 module _ (k D w z : ℕ) (pos : 0 < D) where
   abbrev u : ℕ

@@ -13,6 +13,8 @@ use Rattle.gmp_stuffing.specs.Copied.{copied}
 use Rattle.gmp_stuffing.specs.Row.{row_bytes, row_client}
 use Rattle.gmp_places.proofs.Steps.{Stuffing, Client, step_client, step_stuffing, count_le}
 use Rattle.gmp_stuffing.proofs.Parts.{up_least, up_most, down_least, down_most}
+use Rattle.gmp_row.specs.declared.RowRuns.{RowRuns}
+use Rattle.gmp_row.specs.Row.{Told, RunsOf}
 use Rattle.gmp_row.proofs.Rows.{U}
 use Rattle.gmp_stuffing.proofs.Runs.{row_within, row_count, row_rest, later, run_short, none_before, comes_after, stands, client_stands, place_run, place_zero, target_kept, take_run}
 use Rattle.gmp_stuffing.proofs.Filled.{Filled, filled_all}
@@ -202,6 +204,33 @@ module _ {k C D r at used x : ℕ} (v : Ahead k C D r at used x) where
 -- With t stuffing bytes so far the client bytes are the others, also after the turn.
 pub used_next : {k C D r at t x : ℕ} → Ahead k C D r at (r * k + at - t) x → t ≤ r * k + at → x / U < k → r * k + at - t + (x / U - at) ≡ r * k + (x / U + 1) - (t + 1)
 used_next v le h = omega (arith, (turn v h).after)
+
+-- Such turns by the numbers that a row is told: what placing and taking by them share.
+module _ {k c r : ℕ} {row : RowRuns} (s : RunsOf k c r row) where
+  pub begins : Told k c r → (row.before ≤ r * k) × Ahead k c (4 * k - c) r 0 (r * k + 0 - row.before) row.parts
+  begins told =
+      let a = ahead_row k c (4 * k - c) r row.before (omega arith) (omega arith) told.2 s.before in
+      (a.0, rw s.parts a.1)
+
+  -- below stop the stuffing byte stands in the row
+  pub inside : {x : ℕ} → x < row.stop → x / U < k
+  inside {x} h = omega (arith, (s.blocks x h).1)
+
+  module _ {at used x : ℕ} (v : Ahead k c (4 * k - c) r at used x) where
+    -- and a block has room
+    pub block : 8 * k < 3 * c → x < row.stop → Room k c r at used (x / U - at) row.width
+    block many h = let e = s.blocks x h in block_room v row.width many e.0 e.1
+
+    pub hop_fits : x / U < k → Fits w64 (x + row.hop)
+    hop_fits h = rw s.hop (hop_word v h)
+
+    pub hopped : x / U < k → Ahead k c (4 * k - c) r (x / U + 1) (used + (x / U - at)) (x + row.hop)
+    hopped h = rw s.hop (turn v h).next
+
+  -- With t stuffing bytes so far the client bytes are the others, also after the turn.
+  pub counted : {at t x : ℕ} → t ≤ r * k + at → Ahead k c (4 * k - c) r at (r * k + at - t) x → x / U < k
+      → (t + 1 ≤ r * k + (x / U + 1)) × Ahead k c (4 * k - c) r (x / U + 1) (r * k + (x / U + 1) - (t + 1)) (x + row.hop)
+  counted le v h = (omega (arith, (turn v h).after), rw (← used_next v le h) (hopped v h))
 
 -- Placing and taking by such turns: what the buffer holds after a block of b bytes for the run.
 pub in_client : {k C r at used m b : ℕ} → r < 4 → Room k C r at used m b → used + b ≤ C

@@ -6,7 +6,8 @@
 // byte. Other rows go byte by byte.
 #![tactic(auto)]
 
-ghost use Rattle.std.specs.Prelude.{◌≡◌, ◌&&◌, ℕ, ◌+◌, ◌-◌, ◌*◌, ◌/◌, ◌%◌, ◌≤◌, ◌<◌, length, replicate, ltb, leb};
+ghost use Rattle.std.specs.Prelude.{◌≡◌, ◌+◌, ◌*◌, ◌≤◌, ◌<◌, ◌↔◌, IsTrue, length, replicate};
+ghost use Rattle.gmp_row.specs.Row.{Told};
 ghost use Rattle.gmp_stuffing.specs.Row.{row_fits, row_bytes, row_client, row_placed, row_taken};
 ghost use Rattle.gmp_stuffing.specs.Copied.{copied};
 
@@ -15,6 +16,7 @@ use gmp_row::PARTS;
 // Writes the payload bytes of row r (from 0) of a frame whose rows have as many of them as the
 // buffer is long. A row that is not one of four, a buffer of 2^32 bytes or more, or client bytes
 // that are more than the payload, leave the buffer as it was.
+#[tactic(auto, using(crate::proofs::Laws::placed_fits, crate::proofs::Runs::full_placed), unfolding(crate::specs::Row::row_placed))]
 pub fn place_row(part: &mut [u8], client: &[u8], r: usize)
     ensures { part.new ≡ row_placed r client.now part.old }
 {
@@ -38,14 +40,12 @@ pub fn place_row(part: &mut [u8], client: &[u8], r: usize)
 // Copies the client bytes among the payload bytes of row r (from 0) to their place in the buffer,
 // and leaves the rest of it. A row that is not one of four, or has 2^32 bytes or more, or a count
 // above the payload or above the buffer's length, leave the buffer as it was.
+#[tactic(auto, using(crate::proofs::Laws::taken_fits, crate::proofs::Runs::full_taken), unfolding(crate::specs::Row::row_taken))]
 pub fn take_row(part: &[u8], count: usize, r: usize, out: &mut [u8])
     ensures { out.new ≡ row_taken r count part.now out.old }
 {
     let k = part.len();
-    if out.len() < count {
-        return;
-    }
-    if row_fits(k, r, count) {
+    if count <= out.len() && row_fits(k, r, count) {
         if count >= 4 * k {
             copy_run(out, r * k, part, 0, k);
         } else if goes_by_parts(k) {
@@ -62,13 +62,13 @@ pub fn take_row(part: &[u8], count: usize, r: usize, out: &mut [u8])
 
 // Whether r is one of four rows of k payload bytes, with k below 2^32, and c client bytes fit the
 // payload.
+#[tactic(auto, unfolding(crate::specs::Row::row_fits))]
 fn row_fits(k: usize, r: usize, c: usize) -> bool
-    ensures { result ≡ row_fits k r c }
+    ensures is { result ≡ row_fits k r c }
+    ensures told { IsTrue result ↔ (k < 4294967296) × (r < 4) × (c ≤ 4 * k) }
 {
-    if k >= 4294967296 {
-        return false;
-    }
-    if r >= 4 {
+    // Not one chain of `&&`: with that, placing on a grid of 2 columns took 1.05 of its time.
+    if k >= 4294967296 || r >= 4 {
         return false;
     }
     c <= 4 * k
@@ -78,12 +78,9 @@ fn row_fits(k: usize, r: usize, c: usize) -> bool
 // no room for a block; of one of 2^17 bytes or more it is not shown that they lead to the right
 // byte.
 fn goes_by_parts(k: usize) -> bool
-    ensures { result ≡ (leb 16 k && ltb k 131072) }
+    ensures { IsTrue result ↔ (16 ≤ k) × (k < 131072) }
 {
-    if k < 16 {
-        return false;
-    }
-    k < 131072
+    16 <= k && k < 131072
 }
 
 // Writes the payload bytes of row r, run by run: the client bytes before a stuffing byte, and that.
@@ -91,7 +88,7 @@ fn goes_by_parts(k: usize) -> bool
 // too much is written again by what comes after; longer runs, and those near the row's end, are
 // copied exactly. `stuffed` counts the frame's stuffing bytes so far.
 fn place_runs(part: &mut [u8], client: &[u8], r: usize)
-    requires { (length client.now < 4 * length part.old) × (r < 4) × (length part.old < 131072) × (8 * length part.old < 3 * length client.now) }
+    requires { Told (length part.old) (length client.now) r × (8 * length part.old < 3 * length client.now) }
     ensures { part.new ≡ row_bytes (length part.old) r client.now }
 {
     let k = part.len();
@@ -103,6 +100,7 @@ fn place_runs(part: &mut [u8], client: &[u8], r: usize)
     let mut stuffed = row.before;
     let mut parts = row.parts;
     let mut at = 0;
+    // Not a `for`: a sum leads to the next stuffing byte, and how many there are is not worked out.
     while parts < stop {
         copy_pair(part, at, client, from + at - stuffed, width);
         part[parts / PARTS] = 0;
@@ -111,6 +109,7 @@ fn place_runs(part: &mut [u8], client: &[u8], r: usize)
         parts += hop;
     }
     let mut used = from + at - stuffed;
+    // Not a `for`, as above.
     while parts / PARTS < k {
         let index = parts / PARTS;
         copy_run(part, at, client, used, index - at);
@@ -126,7 +125,7 @@ fn place_runs(part: &mut [u8], client: &[u8], r: usize)
 // written again too, since at least as many client bytes of this row come after as the block is
 // wide: more than two thirds of a block and a half. What stands behind them is not the row's.
 fn take_runs(part: &[u8], count: usize, r: usize, out: &mut [u8])
-    requires { (count < 4 * length part.now) × (count ≤ length out.old) × (r < 4) × (length part.now < 131072) × (8 * length part.now < 3 * count) }
+    requires { Told (length part.now) count r × (count ≤ length out.old) × (8 * length part.now < 3 * count) }
     ensures { out.new ≡ row_client (length part.now) r count part.now out.old }
 {
     let k = part.len();
@@ -138,6 +137,7 @@ fn take_runs(part: &[u8], count: usize, r: usize, out: &mut [u8])
     let mut stuffed = row.before;
     let mut parts = row.parts;
     let mut at = 0;
+    // Not a `for`: a sum leads to the next stuffing byte, and how many there are is not worked out.
     while parts < stop {
         copy_pair(out, from + at - stuffed, part, at, width);
         stuffed += 1;
@@ -145,6 +145,7 @@ fn take_runs(part: &[u8], count: usize, r: usize, out: &mut [u8])
         parts += hop;
     }
     let mut taken = from + at - stuffed;
+    // Not a `for`, as above.
     while parts / PARTS < k {
         let index = parts / PARTS;
         copy_run(out, taken, part, at, index - at);
@@ -157,7 +158,7 @@ fn take_runs(part: &[u8], count: usize, r: usize, out: &mut [u8])
 
 // Clears the row and puts each of its client bytes to its place.
 fn place_singles(part: &mut [u8], client: &[u8], r: usize)
-    requires { (length client.now < 4 * length part.old) × (r < 4) × (length part.old < 131072) × (16 ≤ length part.old) }
+    requires { Told (length part.old) (length client.now) r × (16 ≤ length part.old) }
     ensures { part.new ≡ row_bytes (length part.old) r client.now }
 {
     let k = part.len();
@@ -166,39 +167,32 @@ fn place_singles(part: &mut [u8], client: &[u8], r: usize)
         return;
     }
     let row = gmp_row::row_singles(k, client.len(), r);
-    let end = row.end;
-    let hop = row.hop;
-    let mut j = row.first;
     let mut parts = row.parts;
-    while j < end {
+    for j in row.first..row.end {
         part[parts / PARTS] = client[j];
-        j += 1;
-        parts += hop;
+        parts += row.hop;
     }
 }
 
 // Takes each client byte of row r from its place.
 fn take_singles(part: &[u8], count: usize, r: usize, out: &mut [u8])
-    requires { (count < 4 * length part.now) × (count ≤ length out.old) × (r < 4) × (length part.now < 131072) }
+    requires { Told (length part.now) count r × (count ≤ length out.old) }
     ensures { out.new ≡ row_client (length part.now) r count part.now out.old }
 {
     if count == 0 {
         return;
     }
     let row = gmp_row::row_singles(part.len(), count, r);
-    let end = row.end;
-    let hop = row.hop;
-    let mut j = row.first;
     let mut parts = row.parts;
-    while j < end {
+    for j in row.first..row.end {
         out[j] = part[parts / PARTS];
-        j += 1;
-        parts += hop;
+        parts += row.hop;
     }
 }
 
 // Writes the payload bytes of row r one by one. Row r begins after r * c / 4 client bytes; rest is
 // the remainder by which the rule tells the places.
+// What is asked of r and k is not `Told`, here and in `take_bytes`: such a row may be longer.
 fn place_bytes(part: &mut [u8], client: &[u8], r: usize)
     requires { (length client.now < 4 * length part.old) × (r < 4) × (length part.old < 4294967296) }
     ensures { part.new ≡ row_bytes (length part.old) r client.now }
@@ -207,17 +201,14 @@ fn place_bytes(part: &mut [u8], client: &[u8], r: usize)
     let c = client.len();
     let mut used = r * c / 4;
     let mut rest = r * c % 4 * k;
-    let mut next = 0;
-    while next < k {
-        let at = next;
-        next += 1;
+    for byte in part.iter_mut() {
         rest += c;
         if rest >= 4 * k {
             rest -= 4 * k;
-            part[at] = client[used];
+            *byte = client[used];
             used += 1;
         } else {
-            part[at] = 0;
+            *byte = 0;
         }
     }
 }
@@ -230,22 +221,19 @@ fn take_bytes(part: &[u8], count: usize, r: usize, out: &mut [u8])
     let k = part.len();
     let mut taken = r * count / 4;
     let mut rest = r * count % 4 * k;
-    let mut next = 0;
-    while next < k {
-        let at = next;
-        next += 1;
+    for byte in part {
         rest += count;
         if rest >= 4 * k {
             rest -= 4 * k;
-            out[taken] = part[at];
+            out[taken] = *byte;
             taken += 1;
         }
     }
 }
 
 // Writes zero to every byte, in blocks of which each begins with the last byte of the one before,
-// and the last ends the row: of blocks that do not overlap the compiler would make a call of
-// memset, and a card need not have it.
+// and the last ends the row: of blocks that do not overlap, and of `fill`, the compiler makes a
+// call of memset, and a card need not have it.
 fn clear(part: &mut [u8])
     requires { 16 ≤ length part.old }
     ensures { part.new ≡ replicate (length part.old) 0 }
@@ -253,6 +241,7 @@ fn clear(part: &mut [u8])
     let k = part.len();
     let zeros = [0u8; 16];
     let mut i = 0;
+    // Not a `step_by`: with that, placing half of OPU0's payload took 1.06 of its time.
     while i + 16 <= k {
         copy_block(part, i, &zeros, 0);
         i += 15;
@@ -261,26 +250,26 @@ fn clear(part: &mut [u8])
 }
 
 // Copies m bytes of src, from index j on, to dst, from index i on: fewer than 16 one by one, others
-// in pairs of blocks, the last of which may lie over the one before.
+// in pairs of blocks, the last of which may lie over the one before. Two slices in the place of
+// buffers and places would be no plainer: each call would have to say that they are as long.
 fn copy_run(dst: &mut [u8], i: usize, src: &[u8], j: usize, m: usize)
     requires { (i + m ≤ length dst.old) × (j + m ≤ length src.now) }
     ensures { dst.new ≡ copied dst.old i src.now j m }
 {
     if m < 16 {
         copy_bytes(dst, i, src, j, m);
-        return;
-    }
-    if m <= 32 {
+    } else if m <= 32 {
         copy_pair(dst, i, src, j, m);
-        return;
+    } else {
+        let mut k = 0;
+        // Not a `step_by`: with that, taking on a grid of 2 columns took 1.1 of its time.
+        while k + 32 <= m {
+            copy_pair(dst, i + k, src, j + k, 32);
+            k += 32;
+        }
+        let last = m - 32;
+        copy_pair(dst, i + last, src, j + last, 32);
     }
-    let mut k = 0;
-    while k + 32 <= m {
-        copy_pair(dst, i + k, src, j + k, 32);
-        k += 32;
-    }
-    let a = m - 32;
-    copy_pair(dst, i + a, src, j + a, 32);
 }
 
 // Copies m bytes, from 16 to 32: a block, and where that is not all a second one, which ends with
@@ -291,12 +280,13 @@ fn copy_pair(dst: &mut [u8], i: usize, src: &[u8], j: usize, m: usize)
 {
     copy_block(dst, i, src, j);
     if 16 < m {
-        let a = m - 16;
-        copy_block(dst, i + a, src, j + a);
+        let last = m - 16;
+        copy_block(dst, i + last, src, j + last);
     }
 }
 
 // Copies 16 bytes. The array in between lets the compiler take them as one block.
+// Not by `copy_from_slice`: at OPU0's counts placing took 2.0, and taking 2.6, of its time with it.
 fn copy_block(dst: &mut [u8], i: usize, src: &[u8], j: usize)
     requires { (i + 16 ≤ length dst.old) × (j + 16 ≤ length src.now) }
     ensures { dst.new ≡ copied dst.old i src.now j 16 }
@@ -311,9 +301,7 @@ fn copy_bytes(dst: &mut [u8], i: usize, src: &[u8], j: usize, m: usize)
     requires { (i + m ≤ length dst.old) × (j + m ≤ length src.now) }
     ensures { dst.new ≡ copied dst.old i src.now j m }
 {
-    let mut k = 0;
-    while k < m {
+    for k in 0..m {
         dst[i + k] = src[j + k];
-        k += 1;
     }
 }

@@ -8,8 +8,5 @@ ghost use Rattle.ports.specs.Port.{bad_port};
 pub fn is_bad_port(port: u32) -> bool
     ensures { result ≡ bad_port port }
 {
-    if port == 0 {
-        return true;
-    }
-    8 < port
+    port == 0 || 8 < port
 }

@@ -15,9 +15,9 @@ returns c =
     let g = c.args in
     let i = g.r * (g.k + 2) in
     let d = set (set g.buffer.now i g.a) (i + 1) g.b in
-    let h = row_within g.r g.k c.requires.2 in
+    let h = row_within g.r g.k c.requires.1 in
     let part = take (i + 2 + g.k - (i + 2)) (drop (i + 2) d) in
     let l : length part ≡ g.k = simp (length-take, length-drop, length-set) (omega arith) in
-    let fits = fits_where g.k g.r (length g.client.now) c.requires.3 c.requires.2 c.requires.1 in
+    let fits = fits_where g.k g.r (length g.client.now) c.requires.0.2 c.requires.1 c.requires.0.1 in
     row_stored g.buffer.now c.place_row.new.part i g.k g.a g.b (omega arith)
     ∙ rw (c.place_row.ensures, placed_fits g.k g.r g.client.now part l fits)

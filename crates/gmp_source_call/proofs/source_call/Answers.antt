@@ -11,12 +11,12 @@ use Rattle.gmp_source.specs.Source.{control_bytes, source_refusal, written}
 use Rattle.gmp_source.proofs.Laws.{accepted_knows, client_fits, state_accepted, frame_accepted, state_refused, frame_refused}
 use Rattle.gmp_source_call.proofs.source_call.Goals as goal
 
-pub returns-in_default : goal.returns-in_default
-returns-in_default c =
+pub returns-in-Err : goal.returns-in-Err
+returns-in-Err c =
     let g = c.args in
-    let not_zero = refused_has_number _ _ _ c.judge_call-verdict.ensures c.in_default.is in
+    let not_zero = refused_has_number _ _ _ c.judge_call.ensures c.in-Err.is in
     record {
-      refusal = c.judge_call-verdict.ensures;
+      refusal = sym (ap verdict_number c.in-Err.is) ∙ c.judge_call.ensures;
       state = sym (state_refused g.settings g.state g.next g.client.now g.buffer.now not_zero);
       frame_buffer = sym (frame_refused g.settings g.state g.next g.client.now g.buffer.now not_zero);
     }
@@ -26,7 +26,7 @@ unfolding written
 returns c =
     let g = c.args in
     let zero : source_refusal g.settings g.state g.next (length g.client.now) (length g.buffer.now) ≡ 0 =
-    sym c.judge_call-verdict.ensures ∙ ap verdict_number c.in-Accepted.is in
+    sym c.judge_call.ensures ∙ ap verdict_number c.in_default.is in
     let a = accepted_knows g.settings g.state g.next (length g.client.now) (length g.buffer.now) zero in
     record {
       refusal = sym zero;

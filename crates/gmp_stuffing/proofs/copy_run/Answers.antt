@@ -15,10 +15,10 @@ loop-k-preserved c =
       c.copy_pair-in-loop-k.ensures ∙ rw a.invariant.2 (copied_copied g.dst.now g.i g.src.now g.j a.k a.k 32 (omega arith) (omega arith) (omega arith) (omega arith)),
     )
 
-pub returns : goal.returns
-returns c =
+pub returns-after-loop-k : goal.returns-after-loop-k
+returns-after-loop-k c =
     let a = c.loop-k in
     let g = c.args in
     let e : g.m - 32 + 32 ≡ g.m = omega arith in
     let h = copied_copied g.dst.now g.i g.src.now g.j a.k (g.m - 32) 32 (omega arith) (omega arith) (omega arith) (omega arith) in
-    c.copy_pair-2.ensures ∙ rw (a.invariant.2, h, e)
+    c.copy_pair-else-m-le32.ensures ∙ rw (a.invariant.2, h, e)

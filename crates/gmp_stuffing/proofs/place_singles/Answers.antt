@@ -1,6 +1,6 @@
 -- `gmp_stuffing::place_singles` meets its contract. Assumes nothing.
 use mathlib.Core.Path.{◌≡◌, sym, ◌∙◌}
-use Prim.Native.Nat.{◌+◌, ◌-◌, ◌*◌, ◌/◌}
+use Prim.Native.Nat.{◌+◌, ◌*◌, ◌/◌}
 use native.Mathlib.Nat.{mul-zero, zero-div}
 use native.Mathlib.Omega.{arith}
 use lib.ListN.{length, length-set}
@@ -23,11 +23,10 @@ pub loop-j-init : goal.loop-j-init
 loop-j-init c =
     let g = c.args in
     let k = length g.part.now in
-    let s = c.row_singles-row.ensures c.requires.0 c.requires.1 c.requires.2 (some_byte _ c.if-client-eq0.false) in (
-      rw s.0 (single_row k (length g.client.now) g.r (omega arith) (omega arith) c.requires.2 _ s.2),
-      omega (arith, s.0, s.1),
+    let s = c.row_singles-row.ensures c.requires.0 (some_byte _ c.if-client-eq0.false) in (
+      rw s.first (single_row k (length g.client.now) g.r (omega arith) (omega arith) c.requires.0.2 _ s.parts),
       c.clear.auto.part,
-      c.clear.ensures ∙ zeros_placed k g.r g.client.now (omega arith) (omega arith) _ (s.0 ∙ sym (row_count g.r k (length g.client.now) (omega arith))),
+      c.clear.ensures ∙ zeros_placed k g.r g.client.now (omega arith) (omega arith) _ (s.first ∙ sym (row_count g.r k (length g.client.now) (omega arith))),
     )
 
 pub loop-j-preserved : goal.loop-j-preserved
@@ -35,17 +34,18 @@ loop-j-preserved c =
     let g = c.args in
     let k = length g.part.now in
     let v = c.loop-j.invariant in
-    let f = found k (length g.client.now) g.r (omega arith) (omega arith) c.requires.2 v.0 (omega (arith, (c.row_singles-row.ensures c.requires.0 c.requires.1 c.requires.2 (some_byte _ c.if-client-eq0.false)).1)) in (
-      rw (c.row_singles-row.ensures c.requires.0 c.requires.1 c.requires.2 (some_byte _ c.if-client-eq0.false)).3 f.next,
-      omega arith,
-      rw length-set v.2,
-      rw v.3 (one_placed k g.r g.client.now (omega arith) (omega arith) c.loop-j.j _ f.inside f.client f.count),
+    let s = c.row_singles-row.ensures c.requires.0 (some_byte _ c.if-client-eq0.false) in
+    let f = found k (length g.client.now) g.r (omega arith) (omega arith) c.requires.0.2 v.0 (omega (arith, s.end)) in (
+      rw s.hop f.next,
+      rw length-set v.1,
+      rw v.2 (one_placed k g.r g.client.now (omega arith) (omega arith) c.loop-j.j _ f.inside f.client f.count),
     )
 
 pub returns : goal.returns
 returns c =
     let g = c.args in
     let k = length g.part.now in
-    c.loop-j.invariant.3
+    let s = c.row_singles-row.ensures c.requires.0 (some_byte _ c.if-client-eq0.false) in
+    c.loop-j.invariant.2
     ∙ row_placed_lem k g.r g.client.now (omega arith) (omega arith) c.loop-j.j
-    (omega (arith, c.loop-j.invariant.1, (c.row_singles-row.ensures c.requires.0 c.requires.1 c.requires.2 (some_byte _ c.if-client-eq0.false)).1, row_end g.r k (length g.client.now) (omega arith)))
+    (omega (arith, s.first, s.end, row_end g.r k (length g.client.now) (omega arith)))
