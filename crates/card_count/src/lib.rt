@@ -9,8 +9,9 @@ ghost use Rattle.card_promise.specs.Card.{bad_frames, tallies_by, CardPromise};
 
 use card_tally::Tallies;
 use gmp_payload_type::Expected;
+use gmp_refusal::Refusal;
 use gmp_settings::Settings;
-use gmp_sink::{SinkAnswer, SinkResult, SinkState};
+use gmp_sink::{SinkResult, SinkState};
 use gmp_standing::Standing;
 
 // What a call returns, with the tallies after it.
@@ -21,6 +22,7 @@ pub struct Counted {
 }
 
 // The call with the tallies by value, over which `card_sink::sink_call` stands.
+#[tactic(auto, unfolding(card_promise::specs::Card::tallies_after))]
 pub fn count_call(
     settings: Settings,
     state: SinkState,
@@ -41,10 +43,15 @@ pub fn count_call(
 }
 
 // The tallies after an answer to a call of this port: a refused call leaves them.
-fn count_answer(tallies: Tallies, port: u32, answer: SinkAnswer, handed: u32) -> Tallies
+fn count_answer(
+    tallies: Tallies,
+    port: u32,
+    answer: Result<Standing, Refusal>,
+    handed: u32,
+) -> Tallies
     ensures { result ≡ tallies_by (answer_meaning answer) port handed tallies }
 {
-    let SinkAnswer::Done(standing) = answer else {
+    let Ok(standing) = answer else {
         return tallies;
     };
     card_tally::count_frame(tallies, port, bad_frames(standing), handed)

@@ -1,6 +1,6 @@
 -- What callers cite of the tally: additions add up. Assumes nothing.
 use mathlib.Core.Path.{◌≡◌, sym, ap, ◌∙◌}
-use Prim.Native.Nat.{ℕ, ◌+◌, ◌≤◌}
+use Prim.Native.Nat.{ℕ, ◌+◌, ◌≤◌, min}
 use native.Mathlib.Decide.{dec_le}
 use native.Mathlib.Omega.{arith}
 use borrow.Author.Tests.{le-leb, lt-leb}
@@ -12,6 +12,10 @@ cut_small n h = simp (le-leb n largest h)
 
 cut_large : (n : ℕ) → largest ≤ n → cut n ≡ largest
 cut_large n h = elim (dec_le n largest) [ yes le ↦ cut_small n le ∙ omega arith | no gt ↦ simp (lt-leb n largest (omega arith)) ]
+
+-- the smaller of a number and the largest one is the number cut
+pub min_is_cut : (n : ℕ) → min n largest ≡ cut n
+min_is_cut n = elim (dec_le n largest) [ yes le ↦ simp (le-leb n largest le) (omega arith) | no gt ↦ simp (lt-leb n largest (omega arith)) (omega arith) ]
 
 -- a sum that was cut and goes on stays where the whole sum is cut
 cut_twice : (a b c : ℕ) → cut (cut (a + b) + c) ≡ cut (a + (b + c))

@@ -4,7 +4,7 @@ use mathlib.Core.Path.{◌≡◌, refl, sym, ap, ap₂, ◌∙◌}
 use mathlib.Core.Bool.{Bool, true, false}
 use Prim.Native.Nat.{ℕ, zero, suc, ◌+◌, ◌-◌, ◌*◌, ◌≤◌, ◌<◌}
 use native.Mathlib.Omega.{arith}
-use lib.ListN.{length, get_or, set, length-set}
+use lib.ListN.{length, get_or, length-set}
 use lib.Seq.{get_or-set_same, get_or-set_other}
 use Rattle.ports.specs.Port.{ports, bad_port}
 use Rattle.ports.proofs.Laws.{within_ports, good_port}
@@ -15,17 +15,6 @@ use Rattle.card_tally.specs.Tally.{largest, added}
 use Rattle.card_tally.specs.Ports.{no_tally, tally_of, counted, sum_to, total_by, total_of, Adds, Leaves, OwnPortOnly}
 
 module _ (y : Tallies) (p frames badcheck bytes : ℕ) where
-  -- a port that the card does not have changes nothing
-  pub counted_none : bad_port p ≡ true → counted y p frames badcheck bytes ≡ y
-  unfolding counted
-  counted_none e = rw e
-
-  -- one that it has changes the tally at its place
-  pub counted_at : bad_port p ≡ false → (i : ℕ) → i ≡ p - 1 → (t : Tally) → t ≡ added (get_or y.ports i no_tally) frames badcheck bytes
-      → record { ports = set y.ports i t } ≡ counted y p frames badcheck bytes
-  unfolding counted
-  counted_at e i place t f = rw (e, f, place)
-
   own : length y.ports ≡ ports → bad_port p ≡ false → Adds y p frames badcheck bytes
   unfolding counted
   own eight e =
@@ -57,8 +46,8 @@ others y p q frames badcheck bytes ne = by (bad_port p) refl (bad_port q) refl
         rw (e, f, s)
 
 -- the tally at place i, from 0, is that of port i + 1
-tally_at_lem : (y : Tallies) (i : ℕ) → i < ports → tally_of y (i + 1) ≡ get_or y.ports i no_tally
-tally_at_lem y i h =
+pub tally_at_place : (y : Tallies) (i : ℕ) → i < ports → tally_of y (i + 1) ≡ get_or y.ports i no_tally
+tally_at_place y i h =
     let back : i + 1 - 1 ≡ i = omega arith in
     let near : i + 1 ≤ ports = omega (arith, h) in
     rw (good_port (i + 1) (omega arith) near, back)
@@ -68,18 +57,18 @@ pub record Sums (number : Tally → ℕ) (y : Tallies) (i n : ℕ) : Type 0 wher
   pub is : n ≡ sum_to i (λ p. number (tally_of y p))
   pub within : n ≤ i * largest
 
-pub sums_none : (number : Tally → ℕ) (y : Tallies) → Sums number y 0 0
+pub sums_none : (number : Tally → ℕ) (y : Tallies) (n : ℕ) → n ≡ 0 → Sums number y 0 n
 unfolding sum_to
-sums_none number y = record { is = refl; within = omega arith }
+sums_none number y n e = record { is = e; within = omega (arith, e) }
 
 sum_step : (i : ℕ) (number : ℕ → ℕ) → sum_to i number + number (i + 1) ≡ sum_to (i + 1) number
 unfolding sum_to
 sum_step i number = let e : i + 1 ≡ suc i = omega arith in rw e
 
-pub sums_next : (number : Tally → ℕ) (y : Tallies) (i n : ℕ) → Sums number y i n → i < ports → number (get_or y.ports i no_tally) ≤ largest
-    → Sums number y (i + 1) (n + number (get_or y.ports i no_tally))
-sums_next number y i n s h le =
-    record { is = ap₂ ◌+◌ s.is (ap number (sym (tally_at_lem y i h))) ∙ sum_step i (λ p. number (tally_of y p)); within = omega (arith, s.within, le) }
+pub sums_next : (number : Tally → ℕ) (y : Tallies) (i n m : ℕ) → Sums number y i n → i < ports → m ≡ number (get_or y.ports i no_tally) → m ≤ largest
+    → Sums number y (i + 1) (n + m)
+sums_next number y i n m s h e le =
+    record { is = ap₂ ◌+◌ s.is (e ∙ ap number (sym (tally_at_place y i h))) ∙ sum_step i (λ p. number (tally_of y p)); within = omega (arith, s.within, le) }
 
 -- where the ports have these tallies, the card's total is theirs
 sum_same : (n : ℕ) (f g : ℕ → ℕ) → ((p : ℕ) → f p ≡ g p) → sum_to n f ≡ sum_to n g

@@ -5,12 +5,12 @@
 
 ghost use Rattle.std.specs.Prelude.{◌≡◌, false, ◌+◌, ◌-◌, ◌<◌};
 ghost use Rattle.ports.specs.Port.{bad_port};
-ghost use Rattle.card_tally.specs.Tally.{cut, added};
+ghost use Rattle.card_tally.specs.Tally.{added};
 ghost use Rattle.card_tally.specs.Ports.{new_tallies, tally_of, counted, total_of, OwnPortOnly};
 
 // The tally of a port.
 #[repr(C)]
-#[derive(Clone, Copy)]
+#[derive(Clone, Copy, Default)]
 pub struct Tally {
     pub frames: u32,
     pub badcheck: u32,
@@ -25,7 +25,7 @@ pub struct Tallies {
 
 // The card's total: the sum of the eight, for each of the three numbers.
 #[repr(C)]
-#[derive(Clone, Copy)]
+#[derive(Clone, Copy, Default)]
 pub struct Total {
     pub frames: u64,
     pub badcheck: u64,
@@ -36,12 +36,9 @@ pub struct Total {
 pub fn new_tallies() -> Tallies
     ensures { result ≡ new_tallies }
 {
-    let tally = Tally {
-        frames: 0,
-        badcheck: 0,
-        bytes: 0,
-    };
-    Tallies { ports: [tally; 8] }
+    Tallies {
+        ports: [Tally::default(); 8],
+    }
 }
 
 // The tally of a port, all zero where the card has no such port.
@@ -49,18 +46,14 @@ pub fn tally_of(tallies: Tallies, port: u32) -> Tally
     ensures { result ≡ tally_of tallies port }
 {
     if ports::is_bad_port(port) {
-        return Tally {
-            frames: 0,
-            badcheck: 0,
-            bytes: 0,
-        };
+        return Tally::default();
     }
-    let place = place_of(port);
-    tallies.ports[place]
+    tallies.ports[place_of(port)]
 }
 
 // The tallies after one frame more of this port, with so many BADCHECK frames and bytes. A port
 // that the card does not have changes nothing.
+#[tactic(auto, unfolding(crate::specs::Ports::counted))]
 pub fn count_frame(tallies: Tallies, port: u32, badcheck: u32, bytes: u32) -> Tallies
     ensures { result ≡ counted tallies port 1 badcheck bytes }
 {
@@ -78,25 +71,17 @@ pub fn count_frame(tallies: Tallies, port: u32, badcheck: u32, bytes: u32) -> Ta
 pub fn card_total(tallies: Tallies) -> Total
     ensures { result ≡ total_of tallies }
 {
-    let mut sum = Total {
-        frames: 0,
-        badcheck: 0,
-        bytes: 0,
-    };
-    let mut place = 0;
-    while place < 8 {
-        let tally = tallies.ports[place];
-        sum = Total {
-            frames: sum.frames + tally.frames as u64,
-            badcheck: sum.badcheck + tally.badcheck as u64,
-            bytes: sum.bytes + tally.bytes as u64,
-        };
-        place += 1;
+    let mut sum = Total::default();
+    for tally in &tallies.ports {
+        sum.frames += tally.frames as u64;
+        sum.badcheck += tally.badcheck as u64;
+        sum.bytes += tally.bytes as u64;
     }
     sum
 }
 
 // A frame of one port changes the three numbers of that port only.
+#[tactic(auto, using(crate::proofs::Ports::own_port_only))]
 pub fn own_port_only()
     ensures { OwnPortOnly }
 {}
@@ -110,22 +95,13 @@ fn place_of(port: u32) -> usize
 }
 
 // A port's tally after one frame more, with so many BADCHECK frames and bytes.
+#[tactic(auto, using(crate::proofs::Laws::min_is_cut), unfolding(crate::specs::Tally::added))]
 fn add_frame(tally: Tally, badcheck: u32, bytes: u32) -> Tally
     ensures { result ≡ added tally 1 badcheck bytes }
 {
     Tally {
-        frames: add(tally.frames, 1),
-        badcheck: add(tally.badcheck, badcheck),
-        bytes: add(tally.bytes, bytes),
+        frames: tally.frames.saturating_add(1),
+        badcheck: tally.badcheck.saturating_add(badcheck),
+        bytes: tally.bytes.saturating_add(bytes),
     }
-}
-
-// A sum that stays at the largest number.
-fn add(a: u32, b: u32) -> u32
-    ensures { result ≡ cut (a + b) }
-{
-    if b <= 4294967295 - a {
-        return a + b;
-    }
-    4294967295
 }

@@ -10,7 +10,8 @@ use Rattle.gmp_settings.specs.declared.Settings.{Settings}
 use Rattle.card_tally.specs.declared.Tallies.{Tallies}
 use Rattle.gmp_source.specs.declared.SourceState.{SourceState}
 use Rattle.gmp_source.specs.declared.SourceResult.{SourceResult}
-use Rattle.gmp_source.specs.declared.SourceStart.{SourceStart}
+use Rattle.std.specs.Prelude.{Result}
+use Rattle.gmp_refusal.specs.declared.Refusal.{Refusal}
 use Rattle.gmp_source.specs.Source.{SourcePromise, start_meaning, new_source}
 use Rattle.gmp_source.proofs.new_source.Reads as start-reading
 use Rattle.gmp_source_call.proofs.source_call.Reads as source-reading
@@ -27,7 +28,7 @@ use Rattle.card_sink.proofs.lend_call.Reads as lend-reading
 -- call was given, returned and left in the buffers that it was lent. A run begins with the source
 -- that `new_source` made and the sink that `new_sink` made.
 pub record ContractsPromise : Type 0 where
-  pub new_source_lem : (κs : Lfts 0) (s : Settings) (first payload_type : ℕ) (r : SourceStart)
+  pub new_source_lem : (κs : Lfts 0) (s : Settings) (first payload_type : ℕ) (r : Result SourceState Refusal)
       → start-reading.Learnt κs (s, (first, (payload_type, tt))) r (s, (first, (payload_type, tt)))
       → start_meaning r ≡ new_source s first payload_type
   pub new_sink_lem : (κs : Lfts 0) (r : SinkState) → new-reading.Learnt κs tt r tt → r ≡ new_sink

@@ -76,7 +76,7 @@ as_defined =
       end = end_is;
       answer = λ c. c.kept.sink.answer;
       mended = λ c. c.kept.sink.mended;
-      handed = λ c. c.kept.sink.handed_bytes_lem;
+      handed = λ c. c.kept.sink.handed_bytes;
       out = λ c. c.kept.sink.out_buffer;
       tallies = tallies_are;
     }

@@ -11,8 +11,9 @@ use Rattle.gmp_crc8.specs.Check.{remainder, passes, word}
 use Rattle.gmp_crc8.specs.Checked.{checked_word}
 use Rattle.refusals.specs.Table.{accepts}
 use Rattle.gmp_refusal.specs.declared.Refusal.TheVariants.{Grid, Port}
-use Rattle.gmp_refusal.specs.declared.Verdict.{Verdict}
-use Rattle.gmp_refusal.specs.declared.Verdict.TheVariants.{Accepted, Refused}
+use Rattle.std.specs.Prelude.{Result, Ok, Err}
+use Rattle.gmp_refusal.specs.declared.Refusal.{Refusal}
+use Rattle.gmp_standing.specs.declared.Standing.{Standing}
 use Rattle.gmp_refusal.specs.Refusal.{verdict_number}
 use Rattle.gmp_settings.specs.Settings.{outside}
 use Rattle.gmp_standing.specs.declared.Standing.TheVariants.{Tracked, Paired, Waiting}
@@ -28,8 +29,6 @@ use Rattle.card_tally.specs.declared.Tallies.{Tallies}
 use Rattle.card_tally.specs.Ports.{new_tallies}
 use Rattle.card_promise.specs.Card.{tallies_after}
 use Rattle.gmp_sink.specs.declared.SinkState.{SinkState}
-use Rattle.gmp_sink.specs.declared.SinkAnswer.{SinkAnswer}
-use Rattle.gmp_sink.specs.declared.SinkAnswer.TheVariants.{Done, Refused as TurnedBack}
 use Rattle.gmp_sink.specs.Sink.{new_sink, answer_meaning, sink_refusal, sink_answer, handed, released, standing_after, state_after, sink_state, sink_handed}
 use Rattle.claim_recovery.specs.Runs.{SinkCall, SourceStep, SinkStep, refusal_of, source_after, sink_after, sink_steps, frame_of, answer_of, mended_of, handed_of, out_of}
 use Rattle.claim_worked.specs.Run.{small, wrong, room, send, source, frame1, frame2, frame3, lend_on, lost}
@@ -38,7 +37,7 @@ use Rattle.claim_calls.specs.Worked.{on_one, handed_numbers, WorkedSeen}
 use Rattle.claim_calls.proofs.Observed.{as_defined}
 
 -- a call that answered so
-abbrev source_seen : (x : SourceStep) (v : Verdict) → verdict_number v ≡ refusal_of x → SourceSeen
+abbrev source_seen : (x : SourceStep) (v : Result (Unit {0}) Refusal) → verdict_number v ≡ refusal_of x → SourceSeen
 source_seen x v e =
     record {
       step = x;
@@ -50,7 +49,7 @@ source_seen x v e =
 abbrev tallies_of : SinkStep → Tallies → Tallies
 tallies_of y t = tallies_after y.call.settings y.state y.call.expected y.call.frame y.call.out y.call.port t
 
-abbrev sink_seen : (y : SinkStep) (t : Tallies) (a : SinkAnswer) → answer_meaning a ≡ answer_of y → SinkSeen
+abbrev sink_seen : (y : SinkStep) (t : Tallies) (a : Result Standing Refusal) → answer_meaning a ≡ answer_of y → SinkSeen
 sink_seen y t a e =
     record {
       step = y;
@@ -58,7 +57,7 @@ sink_seen y t a e =
       result = record { answer = a; state = sink_after y; handed = length (handed_of y); mended = mended_of y };
       out = out_of y;
       tallies_then = tallies_of y t;
-      kept = record { sink = record { answer = e; state = refl; handed_bytes_lem = refl; mended = refl; out_buffer = refl }; tallies = refl };
+      kept = record { sink = record { answer = e; state = refl; handed_bytes = refl; mended = refl; out_buffer = refl }; tallies = refl };
     }
 
 abbrev x1 : SourceStep
@@ -70,7 +69,7 @@ x2 = record { call = send wrong 4 (11 ∷ 12 ∷ 13 ∷ 14 ∷ []); state = sour
 abbrev x3 : SourceStep
 x3 = record { call = send small 6 (21 ∷ 22 ∷ 23 ∷ 24 ∷ []); state = source_after x2 }
 
-source_answers : (verdict_number Accepted ≡ refusal_of x1) × (verdict_number (Refused Grid) ≡ refusal_of x2) × (verdict_number Accepted ≡ refusal_of x3)
+source_answers : (verdict_number (Ok tt) ≡ refusal_of x1) × (verdict_number (Err Grid) ≡ refusal_of x2) × (verdict_number (Ok tt) ≡ refusal_of x3)
 unfolding source_refusal source_state outside
 source_answers = (refl, refl, refl)
 
@@ -89,7 +88,7 @@ w1 = record { call = lend_on 5 small frame2 tt room; state = lost }
 abbrev y4 : SinkStep
 y4 = record { call = lend_on 1 small frame3 tt room; state = sink_after y3 }
 
-sink_answers : (answer_meaning (Done Waiting) ≡ answer_of y1) × (answer_meaning (TurnedBack Port) ≡ answer_of y2) × (answer_meaning (Done (Paired 6)) ≡ answer_of y3) × (answer_meaning (Done Waiting) ≡ answer_of w1) × (answer_meaning (Done (Tracked 5)) ≡ answer_of y4)
+sink_answers : (answer_meaning (Ok Waiting) ≡ answer_of y1) × (answer_meaning (Err Port) ≡ answer_of y2) × (answer_meaning (Ok (Paired 6)) ≡ answer_of y3) × (answer_meaning (Ok Waiting) ≡ answer_of w1) × (answer_meaning (Ok (Tracked 5)) ≡ answer_of y4)
 unfolding sink_refusal sink_answer sink_state standing_after state_after control_of found_by reached in_window usable tracked candidate paired equal_indicators passes checked_word remainder divide reduce bits outside word differing table_of
 sink_answers = (refl, refl, refl, refl, refl)
 
@@ -133,14 +132,14 @@ one_handed seen e passed calls =
 pub worked_seen : WorkedSeen
 worked_seen =
     record {
-      source_seen = source_seen x1 Accepted source_answers.0 ∷ source_seen x2 (Refused Grid) source_answers.1 ∷ source_seen x3 Accepted source_answers.2 ∷ [];
+      source_seen = source_seen x1 (Ok tt) source_answers.0 ∷ source_seen x2 (Err Grid) source_answers.1 ∷ source_seen x3 (Ok tt) source_answers.2 ∷ [];
       source_passed = (refl, (refl, (refl, tt)));
-      source_calls_lem = refl;
-      first = sink_seen y1 new_tallies (Done Waiting) sink_answers.0;
-      refused = sink_seen y2 t2 (TurnedBack Port) sink_answers.1;
-      third = sink_seen y3 t3 (Done (Paired 6)) sink_answers.2;
-      fourth = sink_seen y4 t4 (Done (Tracked 5)) sink_answers.4;
-      other = sink_seen w1 t1 (Done Waiting) sink_answers.3;
+      calls_sent = refl;
+      first = sink_seen y1 new_tallies (Ok Waiting) sink_answers.0;
+      refused = sink_seen y2 t2 (Err Port) sink_answers.1;
+      third = sink_seen y3 t3 (Ok (Paired 6)) sink_answers.2;
+      fourth = sink_seen y4 t4 (Ok (Tracked 5)) sink_answers.4;
+      other = sink_seen w1 t1 (Ok Waiting) sink_answers.3;
       one_end = sink_after y4;
       one_passed = (refl, (refl, (refl, (refl, refl))));
       one_calls = refl;

@@ -30,7 +30,7 @@ handed_numbers (c ∷ cs) = cond (accepts (answer_meaning c.result.answer)) (c.r
 pub record WorkedSeen : Type 0 where
   pub source_seen : List SourceSeen
   pub source_passed : SourcePassed source source_seen
-  pub source_calls_lem : source_calls source_seen ≡ sent
+  pub calls_sent : source_calls source_seen ≡ sent
   -- the calls of the two sinks, each with its states passed on
   pub first : SinkSeen
   pub refused : SinkSeen

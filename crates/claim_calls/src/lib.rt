@@ -13,11 +13,14 @@ ghost use Rattle.claim_calls.specs.Worked.{WorkedSeen};
 use card_count::Counted;
 use card_tally::Tallies;
 use gmp_payload_type::Expected;
+use gmp_refusal::Refusal;
 use gmp_settings::Settings;
 use gmp_sink::{SinkResult, SinkState};
-use gmp_source::{SourceResult, SourceStart, SourceState};
+use gmp_source::{SourceResult, SourceState};
 
 // What is known of a call of the source is the promise of its contract: `SourceSeen.kept` is that.
+// Functions that look alike stand here and in the other claims: each holds its promise to a call of
+// its own.
 pub fn source_call_kept(
     settings: Settings,
     state: SourceState,
@@ -31,7 +34,11 @@ pub fn source_call_kept(
 }
 
 // A run begins with the source that `new_source` made
-pub fn new_source_kept(settings: Settings, first: u32, payload_type: u8) -> SourceStart
+pub fn new_source_kept(
+    settings: Settings,
+    first: u32,
+    payload_type: u8,
+) -> Result<SourceState, Refusal>
     ensures { start_meaning result ≡ new_source settings first payload_type }
 {
     gmp_source::new_source(settings, first, payload_type)

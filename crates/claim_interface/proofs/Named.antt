@@ -12,7 +12,7 @@ use Rattle.gmp_standing.specs.declared.Standing.{Standing}
 use Rattle.gmp_standing.specs.declared.Standing.TheVariants.{Read, Tracked, Paired, BadCheck, Waiting, Outside}
 use Rattle.gmp_standing.specs.Standing.{Finding, finding, READ, OUTSIDE, standing_meaning}
 use Rattle.gmp_standing.specs.Known.{in_window}
-use Rattle.gmp_control.specs.declared.Remembered.{Remembered}
+use Rattle.std.specs.Prelude.{Option}
 use Rattle.gmp_control.specs.Word.{count_bits, equal_indicators, word_by}
 use Rattle.gmp_control.specs.Pattern.{Table, table_of}
 use Rattle.gmp_control.specs.Follow.{usable, from_count, from_word, tracked_else_paired, reached, windowed_by, found_by}
@@ -37,7 +37,7 @@ in_window_lem : (s : Settings) (f : Finding) (c : Count) → Named f → Named (
 in_window_lem s f (Known n) p = choice (outside s n) (finding OUTSIDE Unknown) f (Outside, refl) p
 in_window_lem s f Unknown p = p
 
-found_named : (t : Table) (s : Settings) (count : Count) (before : Remembered) (w : ℕ) → Named (found_by t s count before w)
+found_named : (t : Table) (s : Settings) (count : Count) (before : Option ℕ) (w : ℕ) → Named (found_by t s count before w)
 unfolding found_by reached
 found_named t s count before w =
     let rule-3 : Finding = tracked_else_paired (from_count t (in_window s count) w) (from_word t (usable before) w) in

@@ -126,7 +126,7 @@ unfolding tallies_end
 tallies_from_lem u eight l e [] t h = h ∙ e
 tallies_from_lem u eight l e (y ∷ ys) t h =
     tallies_from_lem (after_call y u) (eight_after y u eight) y.tallies_then
-    (y.kept.tallies_numbers_lem ∙ ap (λ (k : List ℕ). tallies_numbers (after_call y (tallies_from k))) (h.0 ∙ e) ∙ ap (λ (v : Tallies). tallies_numbers (after_call y v)) (lossless.tallies u eight))
+    (y.kept.numbers_then ∙ ap (λ (k : List ℕ). tallies_numbers (after_call y (tallies_from k))) (h.0 ∙ e) ∙ ap (λ (v : Tallies). tallies_numbers (after_call y v)) (lossless.tallies u eight))
     ys t h.1
 
 pub tallies_are : (l : List ℕ) → length l ≡ 24 → (seen : List SinkSeen) (t : List ℕ) → TalliesPassed l seen t → t ≡ tallies_numbers (tallies_end (tallies_from l) (sink_made seen))
@@ -144,7 +144,7 @@ seen_of g x l =
       reply = sink_reply s x z g.expected g.frame g.out g.port;
       out = sink_out s z g.expected g.frame g.out g.port;
       tallies_then = tallies_numbers (tallies_after s z g.expected g.frame g.out g.port (tallies_from l));
-      kept = record { reply = refl; out_buffer = refl; tallies_numbers_lem = refl };
+      kept = record { reply = refl; out_buffer = refl; numbers_then = refl };
     }
 
 pub sink_runs : (z : SinkNumbers) (l : List ℕ) (calls : List SinkGiven)

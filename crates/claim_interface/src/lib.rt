@@ -21,7 +21,8 @@ use gmp_payload_type::Expected;
 use gmp_source::SourceState;
 
 // What is known of a call is the promise of its contract, and what a run begins with is what these
-// contracts say: of the source,
+// contracts say. Functions that look alike stand here and in the other claims: each holds its
+// promise to a call of its own. They are of the source,
 pub fn source_new_kept(settings: SettingsNumbers, first: u32, payload_type: u8) -> SourceReply
     ensures { result ≡ start_reply (new_source (settings_from settings) first payload_type) }
 {

@@ -11,7 +11,8 @@ ghost use Rattle.claim_keeper.specs.Worked.{WorkedCalls};
 use gmp_keeper::KeeperResult;
 use gmp_settings::Settings;
 
-// What is known of a call is the promise of its contract: `KeeperSeen.kept` is that.
+// What is known of a call is the promise of its contract: `KeeperSeen.kept` is that. Functions that
+// look alike stand here and in the other claims: each holds its promise to a call of its own.
 pub fn next_count_kept(settings: Settings, p: u32, q: u32, remainder: u32) -> KeeperResult
     ensures { result_meaning result ≡ keeper_call settings p q remainder }
 {
@@ -29,11 +30,13 @@ pub fn first_remainder_kept(q: u32) -> u32
 // returned, give counts that add up; from what `first_remainder` returns on, to the whole number
 // nearest to the rate's total, exact halves going up. Refused calls may stand among them, and the
 // accepted ones share p and q.
+#[tactic(auto, using(crate::proofs::Observed::observed_counts))]
 pub fn observed_counts_add_up()
     ensures { ObservedCounts }
 {}
 
 // Worked calls of a new keeper at the gigabit client's rate, a refused one among them.
+#[tactic(auto, using(crate::proofs::Worked::worked_calls))]
 pub fn worked_calls()
     ensures { WorkedCalls }
 {}

@@ -10,7 +10,7 @@ use Prim.Native.Nat.{ℕ, zero, suc, ◌+◌, ◌*◌, ◌≤◌, ◌<◌}
 use native.Mathlib.Omega.{arith}
 use lib.Dec.{eqb, lit<}
 use lib.ListN.{length, drop, get_or}
-use Rattle.gmp_crc8.specs.declared.ReadWord.{ReadWord}
+use Rattle.gmp_crc8.specs.declared.WordBytes.{WordBytes}
 use Rattle.gmp_crc8.specs.declared.CheckedWord.{CheckedWord}
 use Rattle.gmp_crc8.specs.declared.CheckedWord.TheVariants.{Whole, Mended, Bad}
 use Rattle.gmp_crc8.specs.Checked.{read_word, checked_word}
@@ -24,8 +24,7 @@ use Rattle.gmp_standing.specs.declared.Count.{Count}
 use Rattle.gmp_standing.specs.declared.Count.TheVariants.{Known}
 use Rattle.gmp_standing.specs.Standing.{Finding, finding, READ, TRACKED}
 use Rattle.gmp_standing.specs.Known.{in_window}
-use Rattle.gmp_control.specs.declared.Remembered.{Remembered}
-use Rattle.gmp_control.specs.declared.Remembered.TheVariants.{Word, Nothing}
+use Rattle.std.specs.Prelude.{Option, Some, None}
 use Rattle.gmp_control.specs.Word.{equal_indicators, word_by}
 use Rattle.gmp_control.specs.Pattern.{table_of}
 use Rattle.gmp_control.specs.Announce.{announced}
@@ -81,7 +80,7 @@ module _ (s : Settings) (old : ℕ) (x : SourceStep) (link : Link s old x) where
 
 -- What the written control bytes do to a sink in any state: they read as whole.
 module _ (s : Settings) (old next : ℕ) where
-  abbrev writtenWord : ReadWord
+  abbrev writtenWord : WordBytes
   writtenWord = let c = control_bytes s old next in read_word c.jc1 c.jc2
 
   whole_written : checked_in s (control_bytes s old next) ≡ Whole writtenWord
@@ -91,9 +90,9 @@ module _ (s : Settings) (old next : ℕ) where
   standing_written z =
       sink.standing_read s z (control_bytes s old next) (Whole writtenWord) whole_written ∙ ap (found s z.count z.word) (source.control_word s old next)
 
-  word_written : (z : SinkState) → (state_after s z (control_bytes s old next)).word ≡ usable (Word (announced (table_of s) old next))
+  word_written : (z : SinkState) → (state_after s z (control_bytes s old next)).word ≡ usable (Some (announced (table_of s) old next))
   word_written z =
-      sink.word_read s z (control_bytes s old next) (Whole writtenWord) whole_written ∙ ap (λ (w : ℕ). usable (Word w)) (source.control_word s old next)
+      sink.word_read s z (control_bytes s old next) (Whole writtenWord) whole_written ∙ ap (λ (w : ℕ). usable (Some w)) (source.control_word s old next)
 
 -- A frame that leads a sink where the written one does,
 pub record SameWord (s : Settings) (x : SourceStep) (y : SinkStep) : Type 0 where
@@ -127,7 +126,7 @@ module _ (s : Settings) (old : ℕ) (x : SourceStep) (y : SinkStep) (link : Link
   lent_count : (followed s z y).count ≡ (found s z.count z.word (announced (table_of s) old (count_of x))).count
   lent_count = sink.count_after_lem s z (control_of s.k y.call.frame) ∙ ap (λ (f : Finding). f.count) lent_standing
 
-  lent_word : (followed s z y).word ≡ usable (Word (announced (table_of s) old (count_of x)))
+  lent_word : (followed s z y).word ≡ usable (Some (announced (table_of s) old (count_of x)))
   lent_word = same.word z ∙ ap (λ (c : Control). (state_after s z c).word) (control_is s old x link) ∙ word_written s old (count_of x) z
 
 -- A frame at a sink with the true count: the answer, and its load where the gate of the payload
@@ -225,7 +224,7 @@ module _ (s : Settings) (Lent : SourceStep → SinkStep → Type 0) (goes : (x :
       let t = table_of s in
       lent_count s (count_of x) x₂ y₂ b e₂ (followed s z y)
       ∙ ap (λ (n : Count). (found s n (followed s z y).word (announced t (count_of x) (count_of x₂))).count) (lent_count s old x y a e z)
-      ∙ ap (λ (r : Remembered). (found s (found s z.count z.word (announced t old (count_of x))).count r (announced t (count_of x) (count_of x₂))).count)
+      ∙ ap (λ (r : Option ℕ). (found s (found s z.count z.word (announced t old (count_of x))).count r (announced t (count_of x) (count_of x₂))).count)
       (lent_word s old x y a e z)
       ∙ recovers_in_two t (rule_of s (knows s old x a).patterns) s (knows s old x a).fit old (count_of x) (count_of x₂) z.count z.word
       (old_inside s old x a) (next_inside s old x a) (next_inside s (count_of x) x₂ b)
@@ -276,8 +275,8 @@ module _ (s : Settings) (old : ℕ) (x : SourceStep) (y : SinkStep) (link : Link
       }
 
   itself : (r : CheckedWord) → checked_in s lent ≡ r → (let c = control_bytes s old (count_of x) in IsOrBad c.jc1 c.jc2 r) → (checked_in s lent ≡ Bad) ⊎ SameWord s x y
-  itself (Whole w) e h = inr (as_word (Whole w) e (λ z. ap (λ (v : ReadWord). standing_by s z (Whole v)) h) (ap (λ (v : ReadWord). word_after (Whole v)) h))
-  itself (Mended w) e h = inr (as_word (Mended w) e (λ z. ap (λ (v : ReadWord). standing_by s z (Mended v)) h) (ap (λ (v : ReadWord). word_after (Mended v)) h))
+  itself (Whole w) e h = inr (as_word (Whole w) e (λ z. ap (λ (v : WordBytes). standing_by s z (Whole v)) h) (ap (λ (v : WordBytes). word_after (Whole v)) h))
+  itself (Mended w) e h = inr (as_word (Mended w) e (λ z. ap (λ (v : WordBytes). standing_by s z (Mended v)) h) (ap (λ (v : WordBytes). word_after (Mended v)) h))
   itself Bad e h = inl e
 
   -- A frame with at most the budget's wrong control bits is bad or leads where the written one
@@ -299,15 +298,15 @@ safe_by : (s : Settings) (before old : ℕ) (x : SourceStep) (z : SinkState) (y 
     → SafeState s old (count_of x) (followed s z y)
 safe_by s before old x z y link in-window-before safe (inr same) =
     let t = table_of s in
-    subst⁻¹ (λ (r : Remembered). Safe t old (count_of x) (followed s z y).count r) (lent_word s old x y link same z)
-    (subst⁻¹ (λ (n : Count). Safe t old (count_of x) n (usable (Word (announced t old (count_of x))))) (lent_count s old x y link same z)
+    subst⁻¹ (λ (r : Option ℕ). Safe t old (count_of x) (followed s z y).count r) (lent_word s old x y link same z)
+    (subst⁻¹ (λ (n : Count). Safe t old (count_of x) n (usable (Some (announced t old (count_of x))))) (lent_count s old x y link same z)
     (stays_safe t (rule_of s (knows s old x link).patterns) s (knows s old x link).fit before old (count_of x) z.count z.word in-window-before (old_inside s old x link)
     (next_inside s old x link) safe))
 safe_by s before old x z y link in-window-before safe (inl bad) =
     let t = table_of s in
     let c = control_of s.k y.call.frame in
-    subst⁻¹ (λ (r : Remembered). Safe t old (count_of x) (followed s z y).count r) (sink.word_read s z c Bad bad)
-    (subst⁻¹ (λ (n : Count). Safe t old (count_of x) n Nothing)
+    subst⁻¹ (λ (r : Option ℕ). Safe t old (count_of x) (followed s z y).count r) (sink.word_read s z c Bad bad)
+    (subst⁻¹ (λ (n : Count). Safe t old (count_of x) n None)
     (sink.count_after_lem s z c ∙ ap (λ (f : Finding). f.count) (sink.standing_read s z c Bad bad)) (safe_none t old (count_of x)))
 
 module _ (s : Settings) (mending : Bool) (m : s.mending ≡ mending) where

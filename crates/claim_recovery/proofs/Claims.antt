@@ -14,7 +14,7 @@ use Rattle.gmp_settings.specs.declared.Settings.{Settings}
 use Rattle.gmp_standing.specs.declared.Count.{Count}
 use Rattle.gmp_standing.specs.declared.Count.TheVariants.{Known, Unknown}
 use Rattle.gmp_control.proofs.Reached.{NoneOr}
-use Rattle.gmp_payload_type.specs.declared.AcceptedType.{AcceptedType}
+use Rattle.std.specs.Prelude.{Option}
 use Rattle.gmp_payload_type.specs.declared.Types.{Types}
 use Rattle.gmp_payload_type.specs.Types.{is_accepted, gate_open}
 use Rattle.gmp_payload_type.proofs.Laws.{open_off, open_on, stays, accepts_third}
@@ -170,7 +170,7 @@ module _ (s : Settings) (on : s.type_check ≡ true) (source : SourceState) (cal
       ap (λ (b : Bool). gate_open b y.state.types y.call.expected) on
       ∙ open_on y.state.types y.call.expected
       ∙ ap (λ (t : Types). is_accepted t.accepted y.call.expected.payload_type) types
-      ∙ ap (λ (a : AcceptedType). is_accepted a y.call.expected.payload_type) accepted
+      ∙ ap (λ (a : Option ℕ). is_accepted a y.call.expected.payload_type) accepted
       ∙ ap (eqb is) (reads.lent (i + 1 - m) y k.3).2.expected in
       record {
         frame = k.0;

@@ -8,8 +8,7 @@ use Prim.Native.Nat.{ℕ, zero, suc, ◌-◌}
 use native.Mathlib.Omega.{arith}
 use lib.ListN.{length, take, drop}
 use borrow.Author.Tests.{eqb-true, eqb-false}
-use Rattle.gmp_payload_type.specs.declared.AcceptedType.{AcceptedType}
-use Rattle.gmp_payload_type.specs.declared.AcceptedType.TheVariants.{PayloadType, NoType}
+use Rattle.std.specs.Prelude.{Option, Some, None}
 use Rattle.gmp_payload_type.specs.declared.Types.{Types}
 use Rattle.gmp_payload_type.specs.Types.{judged, types_after, is_accepted, gate_open}
 use Rattle.gmp_payload_type.specs.Claims.{judged_all, last_three}
@@ -78,21 +77,21 @@ shut y t e =
           ∙ ap (λ (l : List ℕ). l ++ drop (length l) y.call.out) same;
     }
 
-is_accepted_lem : (a : AcceptedType) (k : ℕ) → is_accepted a k ≡ true → a ≡ PayloadType k
-is_accepted_lem (PayloadType j) k e = ap PayloadType (eqb-true j k e)
-is_accepted_lem NoType k e = absurd (true≢false (sym e))
+is_accepted_lem : (a : Option ℕ) (k : ℕ) → is_accepted a k ≡ true → a ≡ Some k
+is_accepted_lem (Some j) k e = ap Some (eqb-true j k e)
+is_accepted_lem None k e = absurd (true≢false (sym e))
 
 pub only_expected_type : OnlyExpectedType
 only_expected_type calls zero y p on = absurd p
 only_expected_type calls (suc i) y p on =
     let e : i ≡ suc i - 1 = omega arith in
-    subst (λ (n : ℕ). Hands [] y ⊎ (last_three (types_read [] (take n (sink_steps new_sink calls))) ≡ PayloadType y.call.expected.payload_type)) e
+    subst (λ (n : ℕ). Hands [] y ⊎ (last_three (types_read [] (take n (sink_steps new_sink calls))) ≡ Some y.call.expected.payload_type)) e
     (by (is_accepted three y.call.expected.payload_type) refl)
   where
     before : List SinkStep
     before = take i (sink_steps new_sink calls)
 
-    three : AcceptedType
+    three : Option ℕ
     three = last_three (types_read [] before)
 
     gate : gate_open y.call.settings.type_check y.state.types y.call.expected ≡ is_accepted three y.call.expected.payload_type
@@ -100,8 +99,8 @@ only_expected_type calls (suc i) y p on =
         ap (λ (b : Bool). gate_open b y.state.types y.call.expected) on
         ∙ open_on y.state.types y.call.expected
         ∙ ap (λ (t : Types). is_accepted t.accepted y.call.expected.payload_type) (types_before new_sink calls [] refl i y p)
-        ∙ ap (λ (a : AcceptedType). is_accepted a y.call.expected.payload_type) (three_running.only_three (types_read [] before))
+        ∙ ap (λ (a : Option ℕ). is_accepted a y.call.expected.payload_type) (three_running.only_three (types_read [] before))
 
-    by : (b : Bool) → is_accepted three y.call.expected.payload_type ≡ b → Hands [] y ⊎ (three ≡ PayloadType y.call.expected.payload_type)
+    by : (b : Bool) → is_accepted three y.call.expected.payload_type ≡ b → Hands [] y ⊎ (three ≡ Some y.call.expected.payload_type)
     by true e = inr (is_accepted_lem three y.call.expected.payload_type e)
     by false e = inl (shut y (taken new_sink calls i y p) (gate ∙ e))

@@ -10,7 +10,7 @@ use Rattle.gmp_standing.specs.Standing.{finding, READ, TRACKED}
 use Rattle.gmp_control.specs.Word.{equal_indicators, word_by}
 use Rattle.gmp_frame.specs.declared.Control.{Control}
 use Rattle.gmp_frame.specs.Frame.{control_of}
-use Rattle.gmp_payload_type.specs.declared.AcceptedType.TheVariants.{PayloadType}
+use Rattle.std.specs.Prelude.{Some}
 use Rattle.gmp_payload_type.specs.Types.{times_seen, number_told}
 use Rattle.gmp_source.specs.declared.SourceState.{SourceState}
 use Rattle.gmp_source.specs.Source.{new_source}
@@ -126,7 +126,7 @@ zeros_before sent m i = zero_frames (take (i - m) (drop (m - 1) sent))
 abbrev pub TypeCame : SourceState → List SourceStep → (m i : ℕ) → SinkState → Type 0
 TypeCame source sent m i z =
     let is = source.payload_type in
-    (z.types.accepted ≡ PayloadType is) ⊎ (3 ≤ times_seen z.types.seen is + zeros_before sent m i)
+    (z.types.accepted ≡ Some is) ⊎ (3 ≤ times_seen z.types.seen is + zeros_before sent m i)
 
 -- The call for frame i hands out exactly its load where the source's type is the expected one, and
 -- nothing where it is another.

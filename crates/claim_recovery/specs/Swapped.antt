@@ -4,7 +4,7 @@
 -- nothing.
 use Rattle.std.specs.Prelude.{◌≡◌, ◌⊎◌, Bool, true, cond, ◌&&◌, List, [], ◌∷◌, ℕ, ◌-◌, take}
 use Rattle.gmp_frame.specs.Frame.{psi_of}
-use Rattle.gmp_payload_type.specs.declared.AcceptedType.TheVariants.{PayloadType}
+use Rattle.std.specs.Prelude.{Some}
 use Rattle.gmp_payload_type.specs.Types.{numbered_zero}
 use Rattle.gmp_payload_type.specs.Claims.{last_three}
 use Rattle.gmp_sink.specs.Sink.{new_sink}
@@ -29,4 +29,4 @@ types_read ks (y ∷ ys) = types_read (cond (judges y) (psi_read y ∷ ks) ks) y
 abbrev pub OnlyExpectedType : Type 0
 OnlyExpectedType =
     (calls : List SinkCall) (j : ℕ) (y : SinkStep) → Nth (sink_steps new_sink calls) j y → y.call.settings.type_check ≡ true
-    → Hands [] y ⊎ (last_three (types_read [] (take (j - 1) (sink_steps new_sink calls))) ≡ PayloadType y.call.expected.payload_type)
+    → Hands [] y ⊎ (last_three (types_read [] (take (j - 1) (sink_steps new_sink calls))) ≡ Some y.call.expected.payload_type)

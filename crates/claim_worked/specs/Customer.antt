@@ -9,7 +9,8 @@ use Rattle.gmp_settings.specs.Settings.{with_patterns}
 use Rattle.gmp_settings.specs.Worked.{customer, one_bit_wrong}
 use Rattle.gmp_standing.specs.declared.Count.TheVariants.{Known}
 use Rattle.gmp_standing.specs.Standing.{READ, TRACKED, PAIRED, BADCHECK, WAITING}
-use Rattle.gmp_control.specs.declared.Remembered.TheVariants.{Word}
+use Rattle.std.specs.Prelude.{Some}
+use Rattle.gmp_standing.specs.Standing.{READ, TRACKED, PAIRED, BADCHECK, WAITING}
 use Rattle.gmp_payload_type.specs.Types.{new_types}
 use Rattle.gmp_source.specs.declared.SourceState.{SourceState}
 use Rattle.gmp_source.specs.Source.{source_refusal, next_state}
@@ -74,7 +75,7 @@ their_new =
 
 -- A sink with a false count and a false word from frame 2 to 6.
 abbrev pub their_lost : SinkState
-their_lost = record { count = Known 7; word = Word 21845; types = new_types }
+their_lost = record { count = Known 7; word = Some 21845; types = new_types }
 
 abbrev pub their_any : List SinkCall
 their_any =

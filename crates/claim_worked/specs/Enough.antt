@@ -6,7 +6,7 @@ use Rattle.gmp_settings.specs.declared.Settings.{Settings}
 use Rattle.gmp_standing.specs.declared.Count.TheVariants.{Known}
 use Rattle.gmp_places.specs.Even.{places_in}
 use Rattle.gmp_frame.specs.Frame.{control_of}
-use Rattle.gmp_payload_type.specs.declared.AcceptedType.TheVariants.{PayloadType}
+use Rattle.std.specs.Prelude.{Some}
 use Rattle.gmp_payload_type.specs.declared.Seen.TheVariants.{Once, Twice}
 use Rattle.gmp_source.specs.declared.SourceState.{SourceState}
 use Rattle.gmp_sink.specs.declared.SinkState.{SinkState}
@@ -65,7 +65,7 @@ abbrev pub SawTwice : SinkState → ℕ → Type 0
 SawTwice z k = z.types.seen ≡ Twice k
 
 abbrev pub HadAccepted : SinkState → ℕ → Type 0
-HadAccepted z k = z.types.accepted ≡ PayloadType k
+HadAccepted z k = z.types.accepted ≡ Some k
 
 -- With mending on, a sink in step that reads frames with at most one wrong control bit: its call
 -- for frame i delivers it, the sink holds its count then, and with so many wrong bits it is told as

@@ -7,7 +7,8 @@ use Rattle.gmp_settings.specs.declared.Settings.{Settings}
 use Rattle.gmp_settings.specs.Settings.{with_mending}
 use Rattle.gmp_standing.specs.declared.Count.TheVariants.{Known}
 use Rattle.gmp_standing.specs.Standing.{READ, TRACKED, PAIRED, BADCHECK, WAITING}
-use Rattle.gmp_control.specs.declared.Remembered.TheVariants.{Word, Nothing}
+use Rattle.std.specs.Prelude.{Some, None}
+use Rattle.gmp_standing.specs.Standing.{READ, TRACKED, PAIRED, BADCHECK, WAITING}
 use Rattle.gmp_control.specs.Word.{word_by}
 use Rattle.gmp_payload_type.specs.Types.{new_types}
 use Rattle.gmp_sink.specs.declared.SinkState.{SinkState}
@@ -53,7 +54,7 @@ hearings s =
 
 -- a sink in step with the source before frame 1
 abbrev pub in_step : SinkState
-in_step = record { count = Known 3; word = Nothing; types = new_types }
+in_step = record { count = Known 3; word = None; types = new_types }
 
 -- the first two of them
 abbrev pub first_two : List SinkCall
@@ -80,7 +81,7 @@ pub record MendedRun : Type 0 where
   pub on_bad : bad_frames_of (sink_steps new_sink (hearings mends)) ≡ 0
   pub on_holds : (sink_end new_sink (hearings mends)).count ≡ Known 7
   -- the word that is remembered of frame 2 is the mended one, that which was written
-  pub remembers : (sink_end new_sink first_two).word ≡ Word (word_by 102 118)
+  pub remembers : (sink_end new_sink first_two).word ≡ Some (word_by 102 118)
   -- a sink in step stays so; with mending off a wrong bit puts it back to hunting
   pub step_holds : Held (source_steps source sendings) 1 in_step
   pub step_reads : Reads mends (source_steps source sendings) (OneWrong mends) 1 6 in_step (hearings mends)

@@ -9,7 +9,7 @@ use Rattle.gmp_settings.specs.Settings.{new_settings}
 use Rattle.refusals.specs.Table.{Answer, accepted}
 use Rattle.gmp_standing.specs.declared.Count.TheVariants.{Known, Unknown}
 use Rattle.gmp_standing.specs.Standing.{Finding, finding, READ, TRACKED, PAIRED, BADCHECK, WAITING}
-use Rattle.gmp_control.specs.declared.Remembered.TheVariants.{Word}
+use Rattle.std.specs.Prelude.{Some}
 use Rattle.gmp_payload_type.specs.declared.Expected.{Expected}
 use Rattle.gmp_payload_type.specs.Types.{new_types}
 use Rattle.gmp_source.specs.declared.SourceState.{SourceState}
@@ -103,7 +103,7 @@ from_first =
 
 -- A sink with a false count and a false word from frame 2 to 6, on port 5.
 abbrev pub lost : SinkState
-lost = record { count = Known 7; word = Word 21845; types = new_types }
+lost = record { count = Known 7; word = Some 21845; types = new_types }
 
 abbrev pub from_any : List SinkCall
 from_any =

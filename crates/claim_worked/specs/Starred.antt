@@ -5,7 +5,7 @@ use Rattle.gmp_settings.specs.declared.Settings.{Settings}
 use Rattle.gmp_settings.specs.Settings.{new_settings, opu0}
 use Rattle.gmp_standing.specs.declared.Count.TheVariants.{Known, Unknown}
 use Rattle.gmp_standing.specs.Standing.{Finding, finding, READ, TRACKED, PAIRED, BADCHECK, WAITING, OUTSIDE}
-use Rattle.gmp_control.specs.declared.Remembered.TheVariants.{Nothing}
+use Rattle.std.specs.Prelude.{None}
 use Rattle.gmp_control.specs.Worked.{wide}
 use Rattle.gmp_places.specs.Places.{carries}
 use Rattle.gmp_frame.specs.declared.Control.{Control}
@@ -53,7 +53,7 @@ narrow = new_settings 3808 0 8
 
 -- a sink that knows a false count
 abbrev pub false_count : SinkState
-false_count = record { count = Known 2932; word = Nothing; types = new_types }
+false_count = record { count = Known 2932; word = None; types = new_types }
 
 abbrev pub starred : List Case
 starred =

@@ -6,8 +6,8 @@ use Rattle.gmp_settings.specs.declared.Settings.{Settings}
 use Rattle.gmp_settings.specs.Settings.{with_type_check}
 use Rattle.gmp_standing.specs.declared.Count.TheVariants.{Known}
 use Rattle.gmp_standing.specs.Standing.{READ, BADCHECK}
-use Rattle.gmp_control.specs.declared.Remembered.TheVariants.{Nothing}
-use Rattle.gmp_payload_type.specs.declared.AcceptedType.TheVariants.{PayloadType, NoType}
+use Rattle.std.specs.Prelude.{Some, None}
+use Rattle.gmp_standing.specs.Standing.{READ, BADCHECK}
 use Rattle.gmp_payload_type.specs.declared.Seen.TheVariants.{Once, Twice}
 use Rattle.gmp_sink.specs.declared.SinkState.{SinkState}
 use Rattle.gmp_sink.specs.Sink.{new_sink}
@@ -73,7 +73,7 @@ swapped_cord s = tell 0 s (typed 5) tt ∷ tell 256 s (typed 5) tt ∷ tell 512 
 -- A sink in service: type 7 is accepted and came last. The cord is swapped; of the first frame
 -- numbered 0 the control bytes fail the check.
 abbrev pub in_service : SinkState
-in_service = record { count = Known 3; word = Nothing; types = record { accepted = PayloadType 7; seen = Twice 7 } }
+in_service = record { count = Known 3; word = None; types = record { accepted = Some 7; seen = Twice 7 } }
 
 abbrev pub swapped_then : List SinkCall
 swapped_then =
@@ -94,7 +94,7 @@ pub record TypedRun : Type 0 where
   pub right_answers : answers (sink_steps new_sink (right_cord checks)) ≡ says READ 3 ∷ says READ 3 ∷ says READ 3 ∷ says READ 3 ∷ says READ 3 ∷ []
   pub right_handed : handed_all (sink_steps new_sink (right_cord checks)) ≡ [] ∷ [] ∷ [] ∷ [] ∷ load ∷ []
   pub right_buffers : buffers (sink_steps new_sink (right_cord checks)) ≡ room ∷ room ∷ room ∷ room ∷ (load ++ drop 3 room) ∷ []
-  pub right_types : (sink_end new_sink (right_cord checks)).types ≡ record { accepted = PayloadType 7; seen = Twice 7 }
+  pub right_types : (sink_end new_sink (right_cord checks)).types ≡ record { accepted = Some 7; seen = Twice 7 }
   -- the two that came before the hit count
   pub hit_answers : answers (sink_steps new_sink hit_between) ≡ says READ 3 ∷ says READ 3 ∷ says_none BADCHECK ∷ says READ 3 ∷ says READ 3 ∷ []
   pub hit_handed : handed_all (sink_steps new_sink hit_between) ≡ [] ∷ [] ∷ [] ∷ [] ∷ load ∷ []
@@ -102,12 +102,12 @@ pub record TypedRun : Type 0 where
   pub swapped_answers : answers (sink_steps new_sink (swapped_cord checks)) ≡ says READ 3 ∷ says READ 3 ∷ says READ 3 ∷ says READ 3 ∷ []
   pub swapped_handed : handed_all (sink_steps new_sink (swapped_cord checks)) ≡ [] ∷ [] ∷ [] ∷ [] ∷ []
   pub swapped_bytes : bytes_of (sink_steps new_sink (swapped_cord checks)) ≡ 0
-  pub swapped_types : (sink_end new_sink (swapped_cord checks)).types.accepted ≡ PayloadType 5
+  pub swapped_types : (sink_end new_sink (swapped_cord checks)).types.accepted ≡ Some 5
   -- in service the accepted type stands until the third frame of the other type
   pub service_answers : answers (sink_steps in_service swapped_then) ≡ says_none BADCHECK ∷ says READ 3 ∷ says READ 3 ∷ says READ 3 ∷ says READ 3 ∷ []
   pub service_handed : handed_all (sink_steps in_service swapped_then) ≡ load ∷ [] ∷ load ∷ load ∷ [] ∷ []
-  pub service_types : (sink_end in_service swapped_then).types ≡ record { accepted = PayloadType 5; seen = Twice 5 }
-  pub broken_types : (sink_end new_sink broken).types ≡ record { accepted = NoType; seen = Once 7 }
+  pub service_types : (sink_end in_service swapped_then).types ≡ record { accepted = Some 5; seen = Twice 5 }
+  pub broken_types : (sink_end new_sink broken).types ≡ record { accepted = None; seen = Once 7 }
   -- with the type check off the other client's bytes come with the second frame, and what is
   -- remembered of types stays
   pub off_handed : handed_all (sink_steps new_sink (swapped_cord small)) ≡ [] ∷ load ∷ load ∷ load ∷ []

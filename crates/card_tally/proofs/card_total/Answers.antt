@@ -1,30 +1,34 @@
 -- `card_tally::card_total` meets its contract: at each turn the sum is that over the ports so far.
 -- Assumes nothing.
-use mathlib.Core.Path.{◌≡◌}
-use Prim.Native.Nat.{◌<◌}
+use mathlib.Core.Path.{◌≡◌, refl}
 use native.Mathlib.Omega.{arith}
 use Rattle.card_tally.proofs.Ports.{sums_none, sums_next, sums_total}
 use Rattle.card_tally.proofs.card_total.Goals as goal
 
-pub loop-place-init : goal.loop-place-init
-loop-place-init c =
+pub loop-tally-init : goal.loop-tally-init
+loop-tally-init c =
     let y = c.args.tallies in
-    (omega arith, sums_none (λ t. t.frames) y, sums_none (λ t. t.badcheck) y, sums_none (λ t. t.bytes) y)
+    record {
+      frames = sums_none (λ t. t.frames) y _ (omega arith);
+      badcheck = sums_none (λ t. t.badcheck) y _ (omega arith);
+      bytes = sums_none (λ t. t.bytes) y _ (omega arith);
+    }
 
-pub loop-place-preserved : goal.loop-place-preserved
-loop-place-preserved c =
+pub loop-tally-preserved : goal.loop-tally-preserved
+loop-tally-preserved c =
     let y = c.args.tallies in
-    let l = c.loop-place in
-    let below : l.place < 8 = omega (arith, c.loop-place-test.true) in
-    let fits = c.struct_known-in-loop-place-4-1.given in (
-      omega (arith, below),
-      sums_next (λ t. t.frames) y l.place l.sum.frames l.invariant.1 below (omega (arith, fits.0.fits)),
-      sums_next (λ t. t.badcheck) y l.place l.sum.badcheck l.invariant.2 below (omega (arith, fits.1.0.fits)),
-      sums_next (λ t. t.bytes) y l.place l.sum.bytes l.invariant.3 below (omega (arith, fits.1.1.0.fits)),
-    )
+    let i = c.loop-tally.tally-index in
+    let v = c.loop-tally.invariant in
+    let below = c.loop-tally-test.true in
+    record {
+      frames = sums_next (λ t. t.frames) y i _ _ v.frames below refl (omega arith);
+      badcheck = sums_next (λ t. t.badcheck) y i _ _ v.badcheck below refl (omega arith);
+      bytes = sums_next (λ t. t.bytes) y i _ _ v.bytes below refl (omega arith);
+    }
 
 pub returns : goal.returns
 returns c =
-    let l = c.loop-place in
-    let all : l.place ≡ 8 = omega (arith, l.invariant.0, c.loop-place-test.false) in
-    sums_total c.args.tallies l.place l.sum all l.invariant.1 l.invariant.2 l.invariant.3
+    let l = c.loop-tally in
+    let v = l.invariant in
+    let all : l.tally-index ≡ 8 = omega arith in
+    sums_total c.args.tallies l.tally-index l.sum all v.frames v.badcheck v.bytes
