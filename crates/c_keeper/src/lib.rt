@@ -8,10 +8,10 @@ ghost use Rattle.c_settings.specs.Numbers.{settings_from};
 ghost use Rattle.c_keeper.specs.Numbers.{keeper_reply};
 
 use c_settings::SettingsNumbers;
-use gmp_keeper::{KeeperAnswer, KeeperResult};
-use gmp_refusal::Verdict;
+use gmp_keeper::KeeperResult;
 
-// The refusal's number or 0, the count or 0, and the remainder.
+// The refusal's number or 0, the count or 0, and the remainder. Numbers, and no Result, since C
+// reads this struct.
 #[repr(C)]
 #[derive(Clone, Copy)]
 pub struct KeeperReply {
@@ -36,18 +36,17 @@ pub fn odu0_keeper_call(settings: SettingsNumbers, p: u32, q: u32, remainder: u3
 fn keeper_reply(res: KeeperResult) -> KeeperReply
     ensures { result ≡ keeper_reply (result_meaning res) }
 {
-    let answer = res.answer;
-    let kept = res.remainder;
+    let KeeperResult { answer, remainder } = res;
     match answer {
-        KeeperAnswer::Next(count) => KeeperReply {
+        Ok(count) => KeeperReply {
             refusal: 0,
-            count: count,
-            remainder: kept,
+            count,
+            remainder,
         },
-        KeeperAnswer::Refused(refusal) => KeeperReply {
-            refusal: gmp_refusal::refusal_number(Verdict::Refused(refusal)),
+        Err(refusal) => KeeperReply {
+            refusal: gmp_refusal::refusal_number(Err(refusal)),
             count: 0,
-            remainder: kept,
+            remainder,
         },
     }
 }

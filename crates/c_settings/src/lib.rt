@@ -9,7 +9,8 @@ ghost use Rattle.c_settings.specs.Lossless.{Lossless};
 use gmp_settings::{FourPatterns, Settings};
 
 // The grid and the window; a flag, 0 for the standard's patterns, beside four patterns for the
-// changes +1, -1, +2, -2; a flag, 0 for no mending; and one, 0 for no type check.
+// changes +1, -1, +2, -2; a flag, 0 for no mending; and one, 0 for no type check. Flags and not an
+// Option, since C reads and writes this struct.
 #[repr(C)]
 #[derive(Clone, Copy)]
 pub struct SettingsNumbers {
@@ -25,7 +26,10 @@ pub struct SettingsNumbers {
     pub type_check: u32,
 }
 
-// The settings that ten numbers stand for. Any flag but 0 says that it is on.
+// The settings that ten numbers stand for. Any flag but 0 says that it is on. This is a function
+// and no `From`, as are the conversions of the crates above: the claims cite its clause, and what a
+// `From` gives stands in a member of its trait.
+#[tactic(auto, unfolding(crate::specs::Numbers::settings_from))]
 pub fn settings_from(numbers: SettingsNumbers) -> Settings
     ensures { result ≡ settings_from numbers }
 {
@@ -35,12 +39,14 @@ pub fn settings_from(numbers: SettingsNumbers) -> Settings
 
 // All settings can be said in numbers, and a flag of 0 says the standard's patterns, whatever the
 // four numbers are.
+#[tactic(auto, unfolding(crate::specs::Numbers::patterns_from, crate::specs::Numbers::settings_from))]
 pub fn lossless()
     ensures { Lossless }
 {}
 
 // The grid, the window and the patterns. Where the flag of the patterns is 0 the four numbers are
 // not looked at.
+#[tactic(auto, unfolding(crate::specs::Numbers::patterns_from))]
 fn patterns_from(numbers: SettingsNumbers) -> Settings
     ensures { result ≡ patterns_from numbers }
 {

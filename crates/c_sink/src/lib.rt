@@ -5,29 +5,13 @@
 ghost use Rattle.std.specs.Prelude.{◌≡◌};
 ghost use Rattle.gmp_sink.specs.Sink.{new_sink, answer_meaning};
 ghost use Rattle.c_settings.specs.Numbers.{settings_from};
-ghost use Rattle.c_sink_numbers.specs.Numbers.{count_from, count_flag, count_value, word_from, word_flag, word_value, accepted_from, accepted_flag, accepted_type, seen_from, seen_times, seen_type, state_from, state_numbers, flag_of, sink_reply_by, InterfacePromise};
+ghost use Rattle.c_sink_numbers.specs.Numbers.{count_from, count_flag, count_value, seen_from, seen_times, seen_type, state_from, state_numbers, sink_reply_by, InterfacePromise};
 
 use c_settings::SettingsNumbers;
 use c_sink_numbers::{SinkNumbers, SinkReply};
-use gmp_control::Remembered;
-use gmp_payload_type::{AcceptedType, Expected, Seen, Types};
-use gmp_refusal::Verdict;
-use gmp_sink::{SinkAnswer, SinkResult, SinkState};
+use gmp_payload_type::{Expected, Seen, Types};
+use gmp_sink::{SinkResult, SinkState};
 use gmp_standing::Count;
-
-// A flag, 0 for none, beside the number.
-#[derive(Clone, Copy)]
-struct Flagged {
-    flag: u32,
-    value: u32,
-}
-
-// A flag or how often, 0 for none, beside a payload type.
-#[derive(Clone, Copy)]
-struct TypeNumbers {
-    number: u32,
-    payload_type: u8,
-}
 
 pub fn odu0_sink_new() -> SinkNumbers
     ensures { result ≡ state_numbers new_sink }
@@ -50,88 +34,70 @@ pub fn odu0_sink_call(
     let card = c_settings::settings_from(settings);
     let called = card_sink::lend_call(card, state_from(state), expected, frame, out, port, before);
     *tallies = c_tally::tallies_numbers(called.tallies);
-    let result = called.result;
-    sink_reply(state, result)
+    sink_reply(state, called.result)
 }
 
 // A refused call returns the very numbers that it was given.
 fn sink_reply(given: SinkNumbers, res: SinkResult) -> SinkReply
     ensures { result ≡ sink_reply_by given (answer_meaning res.answer) res.handed res.mended res.state }
 {
-    let answer = res.answer;
-    let state = res.state;
-    let mended = flag(res.mended);
-    match answer {
-        SinkAnswer::Done(standing) => {
-            let found = count_numbers(gmp_standing::found_count(standing));
+    let mended = u32::from(res.mended);
+    match res.answer {
+        Ok(standing) => {
+            let (found, count) = count_numbers(gmp_standing::found_count(standing));
             SinkReply {
                 refusal: 0,
                 standing: gmp_standing::standing_number(standing),
-                found: found.flag,
-                count: found.value,
+                found,
+                count,
                 handed: res.handed,
-                mended: mended,
-                state: state_numbers(state),
+                mended,
+                state: state_numbers(res.state),
             }
         }
-        SinkAnswer::Refused(refusal) => SinkReply {
-            refusal: gmp_refusal::refusal_number(Verdict::Refused(refusal)),
+        Err(refusal) => SinkReply {
+            refusal: gmp_refusal::refusal_number(Err(refusal)),
             standing: 0,
             found: 0,
             count: 0,
             handed: res.handed,
-            mended: mended,
+            mended,
             state: given,
         },
     }
 }
 
-// A flag, 0 for no.
-fn flag(holds: bool) -> u32
-    ensures { result ≡ flag_of holds }
-{
-    if holds {
-        return 1;
-    }
-    0
-}
-
-// The sink's state that eight numbers stand for, and the eight numbers of a state.
+// The sink's state that eight numbers stand for, and the eight numbers of a state. Neither these
+// nor those below are a `From`: none of the types is of this crate.
 fn state_from(numbers: SinkNumbers) -> SinkState
     ensures { result ≡ state_from numbers }
 {
     let types = Types {
-        accepted: accepted_from(numbers.accepted, numbers.accepted_type),
+        accepted: (numbers.accepted != 0).then_some(numbers.accepted_type),
         seen: seen_from(numbers.seen, numbers.seen_type),
     };
     SinkState {
         count: count_from(numbers.known, numbers.count),
-        word: word_from(numbers.remembered, numbers.word),
-        types: types,
+        word: (numbers.remembered != 0).then_some(numbers.word),
+        types,
     }
 }
 
 fn state_numbers(state: SinkState) -> SinkNumbers
     ensures { result ≡ state_numbers state }
 {
-    let count = state.count;
-    let word = state.word;
-    let known = count_numbers(count);
-    let remembered = word_numbers(word);
+    let (known, count) = count_numbers(state.count);
     let types = state.types;
-    let accepted = types.accepted;
-    let seen = types.seen;
-    let kept = accepted_numbers(accepted);
-    let last = seen_numbers(seen);
+    let (seen, seen_type) = seen_numbers(types.seen);
     SinkNumbers {
-        known: known.flag,
-        count: known.value,
-        remembered: remembered.flag,
-        word: remembered.value,
-        accepted: kept.number,
-        seen: last.number,
-        accepted_type: kept.payload_type,
-        seen_type: last.payload_type,
+        known,
+        count,
+        remembered: u32::from(state.word.is_some()),
+        word: state.word.unwrap_or(0),
+        accepted: u32::from(types.accepted.is_some()),
+        seen,
+        accepted_type: types.accepted.unwrap_or(0),
+        seen_type,
     }
 }
 
@@ -140,61 +106,18 @@ fn count_from(flag: u32, n: u32) -> Count
     ensures { result ≡ count_from flag n }
 {
     if flag == 0 {
-        return Count::Unknown;
+        Count::Unknown
+    } else {
+        Count::Known(n)
     }
-    Count::Known(n)
 }
 
-fn count_numbers(count: Count) -> Flagged
-    ensures { (result.flag ≡ count_flag count) × (result.value ≡ count_value count) }
+fn count_numbers(count: Count) -> (u32, u32)
+    ensures { (result.0 ≡ count_flag count) × (result.1 ≡ count_value count) }
 {
     match count {
-        Count::Known(n) => Flagged { flag: 1, value: n },
-        Count::Unknown => Flagged { flag: 0, value: 0 },
-    }
-}
-
-// A remembered word or none.
-fn word_from(flag: u32, n: u32) -> Remembered
-    ensures { result ≡ word_from flag n }
-{
-    if flag == 0 {
-        return Remembered::Nothing;
-    }
-    Remembered::Word(n)
-}
-
-fn word_numbers(word: Remembered) -> Flagged
-    ensures { (result.flag ≡ word_flag word) × (result.value ≡ word_value word) }
-{
-    match word {
-        Remembered::Word(n) => Flagged { flag: 1, value: n },
-        Remembered::Nothing => Flagged { flag: 0, value: 0 },
-    }
-}
-
-// An accepted payload type or none.
-fn accepted_from(flag: u32, payload_type: u8) -> AcceptedType
-    ensures { result ≡ accepted_from flag payload_type }
-{
-    if flag == 0 {
-        return AcceptedType::NoType;
-    }
-    AcceptedType::PayloadType(payload_type)
-}
-
-fn accepted_numbers(accepted: AcceptedType) -> TypeNumbers
-    ensures { (result.number ≡ accepted_flag accepted) × (result.payload_type ≡ accepted_type accepted) }
-{
-    match accepted {
-        AcceptedType::PayloadType(kept) => TypeNumbers {
-            number: 1,
-            payload_type: kept,
-        },
-        AcceptedType::NoType => TypeNumbers {
-            number: 0,
-            payload_type: 0,
-        },
+        Count::Known(n) => (1, n),
+        Count::Unknown => (0, 0),
     }
 }
 
@@ -202,30 +125,19 @@ fn accepted_numbers(accepted: AcceptedType) -> TypeNumbers
 fn seen_from(times: u32, payload_type: u8) -> Seen
     ensures { result ≡ seen_from times payload_type }
 {
-    if times == 0 {
-        return Seen::Never;
+    match times {
+        0 => Seen::Never,
+        1 => Seen::Once(payload_type),
+        _ => Seen::Twice(payload_type),
     }
-    if times == 1 {
-        return Seen::Once(payload_type);
-    }
-    Seen::Twice(payload_type)
 }
 
-fn seen_numbers(seen: Seen) -> TypeNumbers
-    ensures { (result.number ≡ seen_times seen) × (result.payload_type ≡ seen_type seen) }
+fn seen_numbers(seen: Seen) -> (u32, u8)
+    ensures { (result.0 ≡ seen_times seen) × (result.1 ≡ seen_type seen) }
 {
     match seen {
-        Seen::Never => TypeNumbers {
-            number: 0,
-            payload_type: 0,
-        },
-        Seen::Once(last) => TypeNumbers {
-            number: 1,
-            payload_type: last,
-        },
-        Seen::Twice(last) => TypeNumbers {
-            number: 2,
-            payload_type: last,
-        },
+        Seen::Never => (0, 0),
+        Seen::Once(last) => (1, last),
+        Seen::Twice(last) => (2, last),
     }
 }

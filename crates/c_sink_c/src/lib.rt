@@ -1,4 +1,5 @@
 // The sink's calls as C and Rust link them. Each is the function of its name in `c_sink`.
+// They stand twice, since what C links has to be exported by the static library itself.
 #![tactic(auto)]
 
 ghost use Rattle.std.specs.Prelude.{◌≡◌};

@@ -12,10 +12,8 @@ use Rattle.gmp_standing.specs.declared.Count.TheVariants.{Known, Unknown}
 use Rattle.gmp_standing.specs.declared.Standing.{Standing}
 use Rattle.gmp_standing.specs.declared.Standing.TheVariants.{Read, Tracked, Paired, BadCheck, Waiting, Outside}
 use Rattle.gmp_standing.specs.Standing.{Finding, standing_meaning}
-use Rattle.gmp_control.specs.declared.Remembered.{Remembered}
-use Rattle.gmp_control.specs.declared.Remembered.TheVariants.{Word, Nothing}
-use Rattle.gmp_payload_type.specs.declared.AcceptedType.{AcceptedType}
-use Rattle.gmp_payload_type.specs.declared.AcceptedType.TheVariants.{PayloadType, NoType}
+use Rattle.std.specs.Prelude.{Option, Some, None, is_some}
+use Rattle.std.specs.Option.{unwrap_or}
 use Rattle.gmp_payload_type.specs.declared.Seen.{Seen}
 use Rattle.gmp_payload_type.specs.declared.Seen.TheVariants.{Never, Once, Twice}
 use Rattle.gmp_payload_type.specs.declared.Types.{Types}
@@ -25,32 +23,28 @@ use Rattle.card_tally.specs.Ports.{no_tally}
 use Rattle.gmp_sink.specs.declared.SinkState.{SinkState}
 use Rattle.gmp_sink.specs.Sink.{with_types}
 use Rattle.c_sink_numbers.specs.declared.SinkNumbers.{SinkNumbers}
-use Rattle.c_sink_numbers.specs.Numbers.{count_from, count_flag, count_value, word_from, word_flag, word_value, accepted_from, accepted_flag, accepted_type, seen_from, seen_times, seen_type, state_from, state_numbers, sink_reply_by}
+use Rattle.c_sink_numbers.specs.Numbers.{count_from, count_flag, count_value, value_from, flag_of, seen_from, seen_times, seen_type, state_from, state_numbers, sink_reply_by}
 use Rattle.c_sink_numbers.specs.Lossless.{answer_from, mended_from, Lossless}
 
 count_back : (c : Count) → count_from (count_flag c) (count_value c) ≡ c
 count_back (Known n) = refl
 count_back Unknown = refl
 
-word_back : (w : Remembered) → word_from (word_flag w) (word_value w) ≡ w
-word_back (Word n) = refl
-word_back Nothing = refl
-
-accepted_back : (a : AcceptedType) → accepted_from (accepted_flag a) (accepted_type a) ≡ a
-accepted_back (PayloadType k) = refl
-accepted_back NoType = refl
+value_back : (w : Option ℕ) → value_from (flag_of (is_some w)) (unwrap_or w 0) ≡ w
+value_back (Some n) = refl
+value_back None = refl
 
 seen_back : (n : Seen) → seen_from (seen_times n) (seen_type n) ≡ n
 seen_back Never = refl
 seen_back (Once k) = refl
 seen_back (Twice k) = refl
 
-types_back : (t : Types) → (state_from (state_numbers (record { count = Unknown; word = Nothing; types = t }))).types ≡ t
-types_back t = ap₂ (λ (a : AcceptedType) (n : Seen). record { accepted = a; seen = n }) (accepted_back t.accepted) (seen_back t.seen)
+types_back : (t : Types) → (state_from (state_numbers (record { count = Unknown; word = None; types = t }))).types ≡ t
+types_back t = ap₂ (λ (a : Option ℕ) (n : Seen). record { accepted = a; seen = n }) (value_back t.accepted) (seen_back t.seen)
 
 state_back : (z : SinkState) → state_from (state_numbers z) ≡ z
 state_back z =
-    ap₂ (λ (c : Count) (w : Remembered). record { count = c; word = w; types = (state_from (state_numbers z)).types }) (count_back z.count) (word_back z.word)
+    ap₂ (λ (c : Count) (w : Option ℕ). record { count = c; word = w; types = (state_from (state_numbers z)).types }) (count_back z.count) (value_back z.word)
     ∙ ap (with_types z) (types_back z.types)
 
 standing_back : (given : SinkNumbers) (x : Standing) (handed : ℕ) (b : Bool) (z : SinkState)

@@ -1,16 +1,14 @@
 -- The sink's values as the plain numbers that C and Rust see, and back. What may be missing is a
 -- flag, 0 for none, beside a number. Assumes nothing.
-use Rattle.std.specs.Prelude.{◌≡◌, Bool, cond, List, [], ◌∷◌, ◌++◌, ℕ, zero, suc, ◌+◌, ◌*◌, eqb, length, get_or}
+use Rattle.std.specs.Prelude.{◌≡◌, Bool, not, cond, Option, is_some, List, [], ◌∷◌, ◌++◌, ℕ, zero, suc, ◌+◌, ◌*◌, eqb, length, get_or}
 use Rattle.gmp_settings.specs.declared.Settings.{Settings}
 use Rattle.refusals.specs.Table.{Answer, accepted, refused}
 use Rattle.gmp_standing.specs.declared.Count.{Count}
 use Rattle.gmp_standing.specs.declared.Count.TheVariants.{Known, Unknown}
 use Rattle.gmp_standing.specs.Standing.{Finding, standing_number}
-use Rattle.gmp_control.specs.declared.Remembered.{Remembered}
-use Rattle.gmp_control.specs.declared.Remembered.TheVariants.{Word, Nothing}
+use Rattle.std.specs.Option.{unwrap_or}
+use Rattle.std.specs.Bool.{then_some}
 use Rattle.ports.specs.Port.{ports}
-use Rattle.gmp_payload_type.specs.declared.AcceptedType.{AcceptedType}
-use Rattle.gmp_payload_type.specs.declared.AcceptedType.TheVariants.{PayloadType, NoType}
 use Rattle.gmp_payload_type.specs.declared.Seen.{Seen}
 use Rattle.gmp_payload_type.specs.declared.Seen.TheVariants.{Never, Once, Twice}
 use Rattle.gmp_payload_type.specs.declared.Expected.{Expected}
@@ -22,6 +20,10 @@ use Rattle.gmp_sink.specs.Sink.{sink_answer, sink_state, sink_mended, sink_hande
 use Rattle.card_promise.specs.Card.{tallies_after}
 use Rattle.c_sink_numbers.specs.declared.SinkNumbers.{SinkNumbers}
 use Rattle.c_sink_numbers.specs.declared.SinkReply.{SinkReply}
+
+-- a flag, 0 for no
+abbrev pub flag_of : Bool → ℕ
+flag_of b = cond b 1 0
 
 -- a count or none
 abbrev pub count_from : ℕ → ℕ → Count
@@ -35,29 +37,12 @@ abbrev pub count_value : Count → ℕ
 count_value (Known n) = n
 count_value Unknown = 0
 
--- a remembered word or none
-abbrev pub word_from : ℕ → ℕ → Remembered
-word_from flag n = cond (eqb flag 0) Nothing (Word n)
+-- a value that may be missing: a remembered word, and an accepted payload type
+abbrev pub value_from : ℕ → ℕ → Option ℕ
+value_from flag n = then_some (not (eqb flag 0)) n
 
-abbrev pub word_flag : Remembered → ℕ
-word_flag (Word n) = 1
-word_flag Nothing = 0
-
-abbrev pub word_value : Remembered → ℕ
-word_value (Word n) = n
-word_value Nothing = 0
-
--- an accepted payload type or none
-abbrev pub accepted_from : ℕ → ℕ → AcceptedType
-accepted_from flag k = cond (eqb flag 0) NoType (PayloadType k)
-
-abbrev pub accepted_flag : AcceptedType → ℕ
-accepted_flag (PayloadType k) = 1
-accepted_flag NoType = 0
-
-abbrev pub accepted_type : AcceptedType → ℕ
-accepted_type (PayloadType k) = k
-accepted_type NoType = 0
+abbrev pub accepted_from : ℕ → ℕ → Option ℕ
+accepted_from flag k = value_from flag k
 
 -- the type that was seen last, and how often: never, once, or, for any other number, twice or more
 abbrev pub seen_from : ℕ → ℕ → Seen
@@ -78,7 +63,7 @@ abbrev pub state_from : SinkNumbers → SinkState
 state_from x =
     record {
       count = count_from x.known x.count;
-      word = word_from x.remembered x.word;
+      word = value_from x.remembered x.word;
       types = record { accepted = accepted_from x.accepted x.accepted_type; seen = seen_from x.seen x.seen_type };
     }
 
@@ -87,17 +72,13 @@ state_numbers z =
     record {
       known = count_flag z.count;
       count = count_value z.count;
-      remembered = word_flag z.word;
-      word = word_value z.word;
-      accepted = accepted_flag z.types.accepted;
+      remembered = flag_of (is_some z.word);
+      word = unwrap_or z.word 0;
+      accepted = flag_of (is_some z.types.accepted);
       seen = seen_times z.types.seen;
-      accepted_type = accepted_type z.types.accepted;
+      accepted_type = unwrap_or z.types.accepted 0;
       seen_type = seen_type z.types.seen;
     }
-
--- a flag, 0 for no
-abbrev pub flag_of : Bool → ℕ
-flag_of b = cond b 1 0
 
 -- The reply of a sink call from the numbers x. A refused call returns the very numbers that it was
 -- given.
@@ -148,4 +129,4 @@ tallies_numbers y = numbers_of ports y
 pub record InterfacePromise (s : Settings) (x : SinkNumbers) (e : Expected) (frame out : List ℕ) (port : ℕ) (tallies : List ℕ) (r : SinkReply) (out-after tallies_then : List ℕ) : Type 0 where
   pub reply : r ≡ sink_reply s x (state_from x) e frame out port
   pub out_buffer : out-after ≡ sink_out s (state_from x) e frame out port
-  pub tallies_numbers_lem : tallies_then ≡ tallies_numbers (tallies_after s (state_from x) e frame out port (tallies_from tallies))
+  pub numbers_then : tallies_then ≡ tallies_numbers (tallies_after s (state_from x) e frame out port (tallies_from tallies))

@@ -6,7 +6,8 @@ ghost use Rattle.c_sink_numbers.specs.Lossless.{Lossless};
 
 // A sink's state: a flag, 0 for none, beside the count, beside the remembered word and beside the
 // accepted payload type; and how often the type that was seen last was seen: 0, 1, or any other
-// number for twice or more.
+// number for twice or more. Flags and numbers, and no Option or enum, since C reads and writes this
+// struct.
 #[repr(C)]
 #[derive(Clone, Copy)]
 pub struct SinkNumbers {
@@ -21,7 +22,8 @@ pub struct SinkNumbers {
 }
 
 // The refusal's number or 0, the standing's number or 0, what it found, the bytes handed out, a
-// flag, 1 where a wrong control bit was mended, and the sink's state.
+// flag, 1 where a wrong control bit was mended, and the sink's state. Numbers, and no Result, since
+// C reads this struct.
 #[repr(C)]
 #[derive(Clone, Copy)]
 pub struct SinkReply {
@@ -35,6 +37,7 @@ pub struct SinkReply {
 }
 
 // What crosses can be read back.
+#[tactic(auto, using(crate::proofs::Laws::lossless))]
 pub fn lossless()
     ensures { Lossless }
 {}

@@ -8,10 +8,11 @@ ghost use Rattle.c_settings.specs.Numbers.{settings_from};
 ghost use Rattle.c_source.specs.Numbers.{start_reply, source_reply};
 
 use c_settings::SettingsNumbers;
-use gmp_refusal::Verdict;
-use gmp_source::{SourceStart, SourceState};
+use gmp_refusal::Refusal;
+use gmp_source::SourceState;
 
-// The refusal's number or 0, and the source's state.
+// The refusal's number or 0, and the source's state. A number, and no Result, since C reads this
+// struct.
 #[repr(C)]
 #[derive(Clone, Copy)]
 pub struct SourceReply {
@@ -38,24 +39,19 @@ pub fn odu0_source_call(
 {
     let card = c_settings::settings_from(settings);
     let result = gmp_source_call::source_call(card, state, next, client, frame);
-    let verdict = result.answer;
-    let after = result.state;
     SourceReply {
-        refusal: gmp_refusal::refusal_number(verdict),
-        state: after,
+        refusal: gmp_refusal::refusal_number(result.answer),
+        state: result.state,
     }
 }
 
-fn start_reply(start: SourceStart) -> SourceReply
+fn start_reply(start: Result<SourceState, Refusal>) -> SourceReply
     ensures { result ≡ start_reply (start_meaning start) }
 {
     match start {
-        SourceStart::New(state) => SourceReply {
-            refusal: 0,
-            state: state,
-        },
-        SourceStart::Refused(refusal) => SourceReply {
-            refusal: gmp_refusal::refusal_number(Verdict::Refused(refusal)),
+        Ok(state) => SourceReply { refusal: 0, state },
+        Err(refusal) => SourceReply {
+            refusal: gmp_refusal::refusal_number(Err(refusal)),
             state: SourceState {
                 count: 0,
                 multiframe: 0,

@@ -1,4 +1,5 @@
 // The source's calls as C and Rust link them. Each is the function of its name in `c_source`.
+// They stand twice, since what C links has to be exported by the static library itself.
 #![tactic(auto)]
 
 ghost use Rattle.std.specs.Prelude.{◌≡◌};

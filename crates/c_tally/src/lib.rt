@@ -14,60 +14,27 @@ pub fn odu0_card_total(tallies: &[u32; 24]) -> Total
 }
 
 // The tallies that 24 numbers stand for, three for each port in the order of the ports, and the 24
-// numbers of tallies.
+// numbers of tallies. Neither is a `From`: an array is no type of this crate.
 pub fn tallies_from(numbers: [u32; 24]) -> Tallies
     ensures { result ≡ tallies_from numbers }
 {
-    let one = tally_at(numbers, 0);
-    let two = tally_at(numbers, 3);
-    let three = tally_at(numbers, 6);
-    let four = tally_at(numbers, 9);
-    let five = tally_at(numbers, 12);
-    let six = tally_at(numbers, 15);
-    let seven = tally_at(numbers, 18);
-    let eight = tally_at(numbers, 21);
-    Tallies {
-        ports: [one, two, three, four, five, six, seven, eight],
+    let mut ports = [Tally::default(); 8];
+    for (place, tally) in ports.iter_mut().enumerate() {
+        *tally = tally_at(numbers, 3 * place);
     }
+    Tallies { ports }
 }
 
 pub fn tallies_numbers(tallies: Tallies) -> [u32; 24]
     ensures { result ≡ tallies_numbers tallies }
 {
-    let one = tallies.ports[0];
-    let two = tallies.ports[1];
-    let three = tallies.ports[2];
-    let four = tallies.ports[3];
-    let five = tallies.ports[4];
-    let six = tallies.ports[5];
-    let seven = tallies.ports[6];
-    let eight = tallies.ports[7];
-    [
-        one.frames,
-        one.badcheck,
-        one.bytes,
-        two.frames,
-        two.badcheck,
-        two.bytes,
-        three.frames,
-        three.badcheck,
-        three.bytes,
-        four.frames,
-        four.badcheck,
-        four.bytes,
-        five.frames,
-        five.badcheck,
-        five.bytes,
-        six.frames,
-        six.badcheck,
-        six.bytes,
-        seven.frames,
-        seven.badcheck,
-        seven.bytes,
-        eight.frames,
-        eight.badcheck,
-        eight.bytes,
-    ]
+    let mut numbers = [0; 24];
+    for (place, tally) in tallies.ports.iter().enumerate() {
+        numbers[3 * place] = tally.frames;
+        numbers[3 * place + 1] = tally.badcheck;
+        numbers[3 * place + 2] = tally.bytes;
+    }
+    numbers
 }
 
 // The tally that three numbers in a row stand for.

@@ -1,4 +1,5 @@
 // The card's total as C and Rust link it. It is the function of its name in `c_tally`.
+// It stands twice, since what C links has to be exported by the static library itself.
 #![tactic(auto)]
 
 ghost use Rattle.std.specs.Prelude.{◌≡◌};
