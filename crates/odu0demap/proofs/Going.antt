@@ -11,21 +11,19 @@ use lib.Seq.{length-take-le}
 use borrow.Rule.Slice.PartMut.{put_mid, mid_len, same_len_mid}
 use Rattle.io.specs.Counts.{IsPrefixLen}
 use Rattle.math.proofs.Choice.{both_true}
+use Rattle.gmp_standing.specs.declared.Standing.{Standing}
 use Rattle.gmp_standing.specs.Standing.{Finding, standing_meaning}
 use Rattle.gmp_sink.specs.Sink.{mended_in}
 use Rattle.program_stream.specs.declared.Held.{Held}
 use Rattle.program_stream.specs.declared.Stop.{Stop}
-use Rattle.program_stream.specs.declared.End.TheVariants.{Stopped as StoppedRun, Full}
+use Rattle.program_stream.specs.declared.End.TheVariants.{Stopped, Full}
 use Rattle.program_stream.specs.Gather.{held_bytes, Has, Stops}
 use Rattle.program_stream.proofs.Laws.{held_length, held_behind, put_behind, unwritten_stops, stop_ends}
 use Rattle.program_demap.specs.declared.Wanted.{Wanted}
 use Rattle.program_demap.specs.declared.Demapper.{Demapper}
 use Rattle.program_demap.specs.declared.Taken.{Taken}
-use Rattle.odu0demap.specs.declared.Told.{Told}
-use Rattle.odu0demap.specs.declared.Told.TheVariants.{Nothing, Last}
+use Rattle.std.specs.Prelude.{Option, Some, None, Result, Ok, Err}
 use Rattle.odu0demap.specs.declared.Run.{Run}
-use Rattle.odu0demap.specs.declared.Next.{Next}
-use Rattle.odu0demap.specs.declared.Next.TheVariants.{From, Stopped}
 use Rattle.program_demap.specs.Frames.{settings_of, control, standing_of, new_demapper, demapper_after, handed_bytes, Takes}
 use Rattle.program_told.specs.Told.{nothing_to_tell_by, nothing_to_tell}
 use Rattle.odu0demap.specs.Demapping.{frame_at, frames_in, demapper_over, handed_over, nothing_to_tell_of, Telling, Runs, TakesFrames, Goes, GoesOn, Demaps, DemapsAll}
@@ -70,7 +68,7 @@ counted out n h = (h, sym (length-take-le n out h))
 
 module _ (w : Wanted) (d : Demapper) (bytes : List ℕ) (demapper : Demapper) (number handed : ℕ) (out : List ℕ) (g : Running w d bytes demapper number handed out) where
   -- a run of which nothing is to be told
-  pub run_done : (number ≡ 16) ⊎ (length bytes - 15240 * number < 15240) → Runs w d bytes (record { frames = number; handed = handed; before = demapper; after = demapper; told = Nothing }) out
+  pub run_done : (number ≡ 16) ⊎ (length bytes - 15240 * number < 15240) → Runs w d bytes (record { frames = number; handed = handed; before = demapper; after = demapper; told = None }) out
   run_done all =
       record {
         few = g.few;
@@ -131,7 +129,7 @@ module _ (w : Wanted) (d : Demapper) (bytes : List ℕ) (demapper : Demapper) (n
           }
 
       pub run_told : false ≡ nothing_to_tell_by demapper (standing_meaning t.standing) t.mended t.after
-          → Runs w d bytes (record { frames = number + 1; handed = handed + t.handed; before = demapper; after = t.after; told = Last t.standing t.mended }) (put_mid handed (handed + 14410 - handed) out new)
+          → Runs w d bytes (record { frames = number + 1; handed = handed + t.handed; before = demapper; after = t.after; told = Some (t.standing, t.mended) }) (put_mid handed (handed + 14410 - handed) out new)
       run_told q =
           record {
             few = omega arith;
@@ -153,13 +151,13 @@ module _ (w : Wanted) (d : Demapper) (bytes : List ℕ) (demapper : Demapper) (n
           }
 
 -- where a whole frame is there one is taken
-some_told : (w : Wanted) (d : Demapper) (bytes : List ℕ) (n : ℕ) (before : Demapper) (t : Told) → Telling w d bytes n before t → 15240 ≤ length bytes → 0 < n
-some_told w d bytes n before Nothing e h = ⊎_elim (λ m. omega (arith, m)) (λ m. omega (arith, m)) e.1
-some_told w d bytes n before (Last s m) e h = omega (arith, e.1)
+some_told : (w : Wanted) (d : Demapper) (bytes : List ℕ) (n : ℕ) (before : Demapper) (t : Option (Standing × Bool)) → Telling w d bytes n before t → 15240 ≤ length bytes → 0 < n
+some_told w d bytes n before None e h = ⊎_elim (λ m. omega (arith, m)) (λ m. omega (arith, m)) e.1
+some_told w d bytes n before (Some (s, m)) e h = omega (arith, e.1)
 
 -- a run of the frames that are held, and the bytes behind it
 pub goes_held : (w : Wanted) (d : Demapper) (h : Held) (block : List ℕ) (r : Run) (out : List ℕ) → Has 15240 h block → Runs w d (held_bytes h block) r out
-    → (behind : ℕ) → behind ≡ h.at + 15240 * r.frames → Goes w d (held_bytes h block) (From r.after r.frames (record { at = behind; end = h.end })) block
+    → (behind : ℕ) → behind ≡ h.at + 15240 * r.frames → Goes w d (held_bytes h block) (Ok (r.after, r.frames, record { at = behind; end = h.end })) block
 goes_held w d h block r out has p behind e =
     record {
       some = some_told w d (held_bytes h block) r.frames r.before r.told p.told (omega (arith, has.enough, held_length block h has.within));
@@ -170,9 +168,9 @@ goes_held w d h block r out has p behind e =
     }
 
 -- behind what was held before
-pub goes_on : (w : Wanted) (d : Demapper) (old bytes block : List ℕ) (r : Next) → take (length old) bytes ≡ old → Goes w d bytes r block → GoesOn w d old r block
-goes_on w d old bytes block (From r n h) e p = (bytes, e, p)
-goes_on w d old bytes block (Stopped s) e p = unwritten_stops old 15240 s block p
+pub goes_on : (w : Wanted) (d : Demapper) (old bytes block : List ℕ) (r : Result (Demapper × ℕ × Held) Stop) → take (length old) bytes ≡ old → Goes w d bytes r block → GoesOn w d old r block
+goes_on w d old bytes block (Ok (r, n, h)) e p = (bytes, e, p)
+goes_on w d old bytes block (Err s) e p = unwritten_stops old 15240 s block p
 
 -- A demapper that has come so far, over so many frames from a new one on.
 pub record Along (w : Wanted) (d : Demapper) (taken : ℕ) : Type 0 where
@@ -198,7 +196,7 @@ along_next w d taken a bytes r n behind p =
 
 -- its end: a stop, or as many frames as can be counted
 pub run_stopped : (w : Wanted) (d : Demapper) (taken : ℕ) → Along w d taken → (old block : List ℕ) (s : Stop) → Stops old 15240 s.why block
-    → DemapsAll w (record { demapper = d; end = StoppedRun s })
+    → DemapsAll w (record { demapper = d; end = Stopped s })
 run_stopped w d taken a old block s p = record { frames = a.frames; demapper = a.over; ends = stop_ends old 15240 s.why block p }
 
 pub run_full : (w : Wanted) (d : Demapper) (taken : ℕ) → Along w d taken → 18446744073709551599 ≤ taken → DemapsAll w (record { demapper = d; end = Full })

@@ -1,5 +1,5 @@
 -- What the program takes: frame after frame, each once and in order. Assumes nothing.
-use Rattle.std.specs.Prelude.{◌≡◌, Bool, true, false, ◌&&◌, ◌⊎◌, ℕ, zero, suc, ◌+◌, ◌-◌, ◌*◌, ◌≤◌, ◌<◌, eqb, length, get_or, take, drop}
+use Rattle.std.specs.Prelude.{◌≡◌, Bool, true, false, ◌&&◌, ◌⊎◌, ℕ, zero, suc, ◌+◌, ◌-◌, ◌*◌, ◌≤◌, ◌<◌, length, take, drop, Option, Some, None, Result, Ok, Err}
 use mathlib.Core.List.{List, [], ◌∷◌, ◌++◌, foldl}
 use Rattle.io.specs.Counts.{IsPrefixLen}
 use Rattle.gmp_standing.specs.declared.Standing.{Standing}
@@ -9,17 +9,11 @@ use Rattle.program_demap.specs.declared.Wanted.{Wanted}
 use Rattle.program_demap.specs.declared.Demapper.{Demapper}
 use Rattle.program_demap.specs.Frames.{settings_of, control, standing_of, handed_bytes, new_demapper, demapper_after}
 use Rattle.program_told.specs.Told.{nothing_to_tell}
+use Rattle.program_stream.specs.declared.Held.{Held}
+use Rattle.program_stream.specs.declared.Stop.{Stop}
 use Rattle.program_stream.specs.Gather.{held_bytes, IsUnwritten, Stops, Ends}
 use Rattle.odu0demap.specs.declared.Run.{Run}
-use Rattle.odu0demap.specs.declared.Told.{Told}
-use Rattle.odu0demap.specs.declared.Told.TheVariants.{Nothing, Last}
-use Rattle.odu0demap.specs.declared.Next.{Next}
-use Rattle.odu0demap.specs.declared.Next.TheVariants.{From, Stopped}
 use Rattle.odu0demap.specs.declared.Demapped.{Demapped}
-
--- an argument of these four letters
-abbrev pub is_word : ℕ → ℕ → ℕ → ℕ → List ℕ → Bool
-is_word a b c d text = eqb (length text) 4 && (eqb (get_or text 0 0) a && (eqb (get_or text 1 0) b && (eqb (get_or text 2 0) c && eqb (get_or text 3 0) d)))
 
 -- all frames: the demapper at the end is a new one after some frames, each once and in order
 abbrev pub Demaps : Wanted → Demapper → List (List ℕ) → Type 0
@@ -64,9 +58,9 @@ pub record Tells (w : Wanted) (d : Demapper) (bytes : List ℕ) (n : ℕ) (befor
 
 -- What is to be told of the first n frames: something of the last only, or nothing of any, where no
 -- whole frame is left or they are 16.
-abbrev pub Telling : Wanted → Demapper → List ℕ → ℕ → Demapper → Told → Type 0
-Telling w d bytes n before Nothing = (nothing_to_tell_of w d (frames_in n bytes) ≡ true) × ((n ≡ 16) ⊎ (length bytes - 15240 * n < 15240))
-Telling w d bytes n before (Last s m) = (k : ℕ) × (n ≡ k + 1) × Tells w d bytes k before s m
+abbrev pub Telling : Wanted → Demapper → List ℕ → ℕ → Demapper → Option (Standing × Bool) → Type 0
+Telling w d bytes n before None = (nothing_to_tell_of w d (frames_in n bytes) ≡ true) × ((n ≡ 16) ⊎ (length bytes - 15240 * n < 15240))
+Telling w d bytes n before (Some (s, m)) = (k : ℕ) × (n ≡ k + 1) × Tells w d bytes k before s m
 
 -- Frames taken one after the other, as above: the demapper after them, and the client bytes, all
 -- and in order, at the start of the output buffer, with their number.
@@ -87,12 +81,12 @@ pub record TakesFrames (w : Wanted) (d : Demapper) (bytes : List ℕ) (r : Demap
   pub after : r ≡ demapper_over w d (frames_in n bytes)
   pub held : behind ≡ drop (15240 * n) bytes
 
-abbrev pub Goes : Wanted → Demapper → List ℕ → Next → List ℕ → Type 0
-Goes w d bytes (From r n h) block = TakesFrames w d bytes r n (held_bytes h block)
-Goes w d bytes (Stopped s) block = IsUnwritten s
+abbrev pub Goes : Wanted → Demapper → List ℕ → Result (Demapper × ℕ × Held) Stop → List ℕ → Type 0
+Goes w d bytes (Ok (r, n, h)) block = TakesFrames w d bytes r n (held_bytes h block)
+Goes w d bytes (Err s) block = IsUnwritten s
 
 -- and where more is read: the bytes begin with those that were held before. Or there is a stop, at
 -- the input's end with less than a frame left.
-abbrev pub GoesOn : Wanted → Demapper → List ℕ → Next → List ℕ → Type 0
-GoesOn w d old (From r n h) block = (bytes : List ℕ) × (take (length old) bytes ≡ old) × Goes w d bytes (From r n h) block
-GoesOn w d old (Stopped s) block = Stops old 15240 s.why block
+abbrev pub GoesOn : Wanted → Demapper → List ℕ → Result (Demapper × ℕ × Held) Stop → List ℕ → Type 0
+GoesOn w d old (Ok (r, n, h)) block = (bytes : List ℕ) × (take (length old) bytes ≡ old) × Goes w d bytes (Ok (r, n, h)) block
+GoesOn w d old (Err s) block = Stops old 15240 s.why block

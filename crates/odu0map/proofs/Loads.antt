@@ -3,7 +3,7 @@ use Rattle.std.proofs.Common.{◌≡◌, ℕ, zero, suc, ◌+◌, ◌-◌, ◌*�
 use borrow.Rule.Slice.PartMut.{put_mid, mid_len, same_len_mid}
 use Rattle.program_stream.specs.declared.Held.{Held}
 use Rattle.program_stream.specs.declared.Stop.{Stop}
-use Rattle.program_stream.specs.declared.End.TheVariants.{Stopped as StoppedRun, Full}
+use Rattle.program_stream.specs.declared.End.TheVariants.{Stopped, Full}
 use Rattle.program_stream.specs.Gather.{held_bytes, Has, Holds, Stops, EndsFor}
 use Rattle.program_stream.proofs.Laws.{has_enough, held_length, held_behind, put_behind, unwritten_stops, stop_ends}
 use Rattle.gmp_settings.specs.Settings.{opu0}
@@ -12,8 +12,7 @@ use Rattle.gmp_source.specs.Source.{written}
 use Rattle.program_map.specs.declared.Rate.{Rate}
 use Rattle.program_map.specs.declared.Mapper.{Mapper}
 use Rattle.odu0map.specs.declared.Batch.{Batch}
-use Rattle.odu0map.specs.declared.Next.{Next}
-use Rattle.odu0map.specs.declared.Next.TheVariants.{From, Stopped}
+use Rattle.std.specs.Prelude.{Result, Ok, Err}
 use Rattle.program_map.specs.Frames.{count_from, Ready, mapped, Maps}
 use Rattle.odu0map.specs.Mapping.{mapper_after, bytes_after, load_at, frame_at, frames_after, Batched, MapsLoads, Goes, GoesOn, Counts}
 
@@ -86,7 +85,7 @@ module _ (a : Rate) (m : Mapper) (client : List ℕ) (mapper : Mapper) (at numbe
       let load : take (at + count - at) (drop at client) ≡ load_at a m client number =
       ap (λ (i : ℕ). take i (drop at client)) long ∙ ap₂ (λ (x : Mapper) (i : ℕ). take x.source.count (drop i client)) g.here g.bytes in
       let frame : new ≡ frame_at a m client number =
-      p.frame_bytes_lem ∙ ap₂ (λ (x : Mapper) (bytes : List ℕ). written opu0 x.source (count_from a x.remainder) bytes) g.here load in
+      p.frame_bytes ∙ ap₂ (λ (x : Mapper) (bytes : List ℕ). written opu0 x.source (count_from a x.remainder) bytes) g.here load in
       let behind = put_behind frames new place (place + 15240 - place) 15240 (omega (arith, g.size)) (omega (arith, l)) in
       record {
         ready = p.ready;
@@ -104,7 +103,7 @@ module _ (a : Rate) (m : Mapper) (client : List ℕ) (mapper : Mapper) (at numbe
   mapping_done all =
       record {
         batch = record { mapper = g.here; ready = g.ready; bytes = g.bytes; within = g.within; few = g.few; all = all };
-        frame_bytes_lem = g.done;
+        frame_bytes = g.done;
       }
 
 -- where a whole load is there one is taken
@@ -125,7 +124,7 @@ holds_load a m old h block ready l p = has_enough old m.source.count h block p (
 
 -- a batch of the loads that are held, and the bytes behind it
 pub goes_held : (a : Rate) (m : Mapper) (h : Held) (block : List ℕ) (r : Batch) → Has m.source.count h block → Batched a m (held_bytes h block) r
-    → (behind : ℕ) → behind ≡ h.at + r.bytes → Goes a m (held_bytes h block) (From r (record { at = behind; end = h.end })) block
+    → (behind : ℕ) → behind ≡ h.at + r.bytes → Goes a m (held_bytes h block) (Ok (r, record { at = behind; end = h.end })) block
 goes_held a m h block r w p behind e = (
   p,
   takes_one a m (held_bytes h block) r p (omega (arith, w.enough, held_length block h w.within)),
@@ -137,9 +136,9 @@ pub behind_fits : (h : Held) (block : List ℕ) (least n : ℕ) → Has least h 
 behind_fits h block least n w l = omega (arith, w.order, w.within, held_length block h w.within)
 
 -- behind what was held before
-pub goes_on : (a : Rate) (m : Mapper) (old client block : List ℕ) (r : Next) → take (length old) client ≡ old → Goes a m client r block → GoesOn a m old r block
-goes_on a m old client block (From r h) e p = (client, e, p)
-goes_on a m old client block (Stopped s) e p = unwritten_stops old m.source.count s block p
+pub goes_on : (a : Rate) (m : Mapper) (old client block : List ℕ) (r : Result (Batch × Held) Stop) → take (length old) client ≡ old → Goes a m client r block → GoesOn a m old r block
+goes_on a m old client block (Ok (r, h)) e p = (client, e, p)
+goes_on a m old client block (Err s) e p = unwritten_stops old m.source.count s block p
 
 -- A run of batches: after so many frames from m₀ the mapper is at m, and the frames carry so many
 -- client bytes, modulo 2^64.
@@ -167,7 +166,7 @@ along_next a m₀ m n b l h client r p c e =
 
 -- its end: a stop, or as many frames as can be counted
 pub run_stopped : (a : Rate) (m₀ m : Mapper) (frames bytes : ℕ) → Along a m₀ m frames bytes → (old block : List ℕ) (s : Stop) → Stops old m.source.count s.why block
-    → Counts a m₀ (record { frames = frames; bytes = bytes; end = StoppedRun s })
+    → Counts a m₀ (record { frames = frames; bytes = bytes; end = Stopped s })
 run_stopped a m₀ m frames bytes l old block s p =
     record {
       bytes = l.sum;

@@ -1,15 +1,15 @@
 -- What the program maps: load after load of the paper's source. Assumes nothing.
-use Rattle.std.specs.Prelude.{◌≡◌, ℕ, zero, suc, ◌+◌, ◌-◌, ◌*◌, ◌%◌, ◌<◌, ◌≤◌, ◌⊎◌, List, [], ◌++◌, length, take, drop}
+use Rattle.std.specs.Prelude.{◌≡◌, ℕ, zero, suc, ◌+◌, ◌-◌, ◌*◌, ◌%◌, ◌<◌, ◌≤◌, ◌⊎◌, List, [], ◌++◌, length, take, drop, Result, Ok, Err}
 use Rattle.gmp_settings.specs.Settings.{opu0}
 use Rattle.gmp_source.specs.Source.{written}
+use Rattle.program_stream.specs.declared.Held.{Held}
+use Rattle.program_stream.specs.declared.Stop.{Stop}
 use Rattle.program_stream.specs.Gather.{held_bytes, IsUnwritten, Stops, Ends}
 use Rattle.program_map.specs.declared.Rate.{Rate}
 use Rattle.program_map.specs.declared.Mapper.{Mapper}
 use Rattle.program_map.specs.Frames.{count_from, Ready, mapped}
 use Rattle.odu0map.specs.declared.Totals.{Totals}
 use Rattle.odu0map.specs.declared.Batch.{Batch}
-use Rattle.odu0map.specs.declared.Next.{Next}
-use Rattle.odu0map.specs.declared.Next.TheVariants.{From, Stopped}
 
 -- the mapper after n frames, one after the other, and the client bytes that they carry
 unfoldable pub mapper_after : Rate → Mapper → ℕ → Mapper
@@ -45,19 +45,19 @@ pub record Batched (a : Rate) (m : Mapper) (client : List ℕ) (r : Batch) : Typ
 -- and every byte of their frames
 pub record MapsLoads (a : Rate) (m : Mapper) (client : List ℕ) (r : Batch) (frames : List ℕ) : Type 0 where
   pub batch : Batched a m client r
-  pub frame_bytes_lem : take (15240 * r.frames) frames ≡ frames_after a m client r.frames
+  pub frame_bytes : take (15240 * r.frames) frames ≡ frames_after a m client r.frames
 
 -- What is gone on from, where these client bytes were held: one load or more is mapped, and the
 -- bytes behind are held on. Or a write failed.
-abbrev pub Goes : Rate → Mapper → List ℕ → Next → List ℕ → Type 0
-Goes a m client (From r h) block = Batched a m client r × (0 < r.frames) × (held_bytes h block ≡ drop r.bytes client)
-Goes a m client (Stopped s) block = IsUnwritten s
+abbrev pub Goes : Rate → Mapper → List ℕ → Result (Batch × Held) Stop → List ℕ → Type 0
+Goes a m client (Ok (r, h)) block = Batched a m client r × (0 < r.frames) × (held_bytes h block ≡ drop r.bytes client)
+Goes a m client (Err s) block = IsUnwritten s
 
 -- and where more is read: the client bytes begin with those that were held before. Or there is a
 -- stop, at the input's end with less than a load left.
-abbrev pub GoesOn : Rate → Mapper → List ℕ → Next → List ℕ → Type 0
-GoesOn a m old (From r h) block = (client : List ℕ) × (take (length old) client ≡ old) × Goes a m client (From r h) block
-GoesOn a m old (Stopped s) block = Stops old m.source.count s.why block
+abbrev pub GoesOn : Rate → Mapper → List ℕ → Result (Batch × Held) Stop → List ℕ → Type 0
+GoesOn a m old (Ok (r, h)) block = (client : List ℕ) × (take (length old) client ≡ old) × Goes a m client (Ok (r, h)) block
+GoesOn a m old (Err s) block = Stops old m.source.count s.why block
 
 -- What is told at the end: so many frames carry so many client bytes, modulo 2^64. And why the run
 -- ended: the input did, with less left than the next load, a read or a write failed, or there are

@@ -8,19 +8,11 @@ ghost use Rattle.program_stream.specs.Gather.{held_bytes, Has, Writes};
 ghost use Rattle.program_map.specs.Frames.{Ready};
 ghost use Rattle.odu0map.specs.Mapping.{frames_after, Goes, GoesOn, MapsLoads, Counts};
 
-use gmp_refusal::{NAME_LENGTHS, NAMES, Refusal, Verdict};
-use program_decimal::Number;
-use program_map::{Mapper, Rate, Start};
-use program_stream::{Done, End, Held, Stop, Streams, Supplied};
+use gmp_refusal::{NAME_LENGTHS, NAMES, Refusal};
+use program_map::{Mapper, Rate};
+use program_stream::{End, Held, Stop, Streams};
 use std::env::Env;
 use std::io::Write;
-
-// The rate that the arguments ask for, or that they are wrong.
-#[derive(Clone, Copy)]
-enum Asked {
-    At(Rate),
-    Wrong,
-}
 
 // The frames of the writes that were done, the client bytes that they carry, modulo 2^64, and how
 // the run ended.
@@ -40,13 +32,6 @@ struct Batch {
     bytes: usize,
 }
 
-// What was mapped, with the client bytes held behind it, or a stop.
-#[derive(Drop)]
-enum Next {
-    From(Batch, Held),
-    Stopped(Stop),
-}
-
 // Maps the input at the rate asked for, or says why it cannot.
 fn main(rt: HostRuntime) {
     let mut streams = Streams {
@@ -54,8 +39,7 @@ fn main(rt: HostRuntime) {
         output: rt.stdout(),
         error: rt.stderr(),
     };
-    let asked = asked_rate(&rt);
-    let Asked::At(rate) = asked else {
+    let Some(rate) = asked_rate(&rt) else {
         program_say::tell(
             &mut streams.error,
             b"odu0map: the arguments are not two decimal numbers of 32 bits\n",
@@ -63,37 +47,31 @@ fn main(rt: HostRuntime) {
         show_usage(&mut streams.error);
         return;
     };
-    let start = program_map::new_mapper(rate);
-    match start {
-        Start::New(mapper) => {
+    match program_map::new_mapper(rate) {
+        Ok(mapper) => {
             let totals = map_all(&mut streams, rate, mapper);
             show_totals(&mut streams.error, &totals);
         }
-        Start::Refused(refusal) => show_refusal(&mut streams.error, refusal),
+        Err(refusal) => show_refusal(&mut streams.error, refusal),
     }
 }
 
-// The rate that the arguments give, or the usual one where there are none.
-fn asked_rate(env: &impl Env) -> Asked {
+// The rate that the arguments give, or the usual one where there are none. There is no rate where
+// they are wrong.
+fn asked_rate(env: &impl Env) -> Option<Rate> {
     let given = program_say::argument_count(env);
     if given < 2 {
-        return Asked::At(Rate {
+        return Some(Rate {
             p: 18671875,
             q: 1296,
         });
     }
     if given != 3 {
-        return Asked::Wrong;
+        return None;
     }
-    let first = program_say::argument(env, 1);
-    let Number::Value(p) = first else {
-        return Asked::Wrong;
-    };
-    let second = program_say::argument(env, 2);
-    let Number::Value(q) = second else {
-        return Asked::Wrong;
-    };
-    Asked::At(Rate { p: p, q: q })
+    let p = program_say::argument(env, 1)?;
+    let q = program_say::argument(env, 2)?;
+    Some(Rate { p, q })
 }
 
 // Maps load after load, with room for 16 of the largest loads and for their frames.
@@ -109,14 +87,15 @@ fn map_all(streams: &mut Streams, rate: Rate, new: Mapper) -> Totals
 // Maps batch after batch, each by the mapper that the one before it left, until there is a stop.
 // Where a batch cannot be written the totals are those of the batches before it. A proved loop has
 // to end: this one does where the number of frames could grow past 64 bits, which no input reaches.
+// A for would count the batches and not the frames.
 fn map_stream(
     streams: &mut Streams,
     rate: Rate,
     new: Mapper,
-    client: &mut [u8],
-    frames: &mut [u8],
+    client: &mut [u8; 230560],
+    frames: &mut [u8; 243840],
 ) -> Totals
-    requires { Ready rate new × (length client.old ≡ 230560) × (length frames.old ≡ 243840) }
+    requires { Ready rate new }
     ensures { Counts rate new result }
 {
     let mut mapper = new;
@@ -124,18 +103,17 @@ fn map_stream(
     let mut written: u64 = 0;
     let mut bytes: u64 = 0;
     while written < u64::MAX - 16 {
-        let next = map_next(streams, rate, mapper, held, client, frames);
-        match next {
-            Next::From(batch, behind) => {
+        match map_next(streams, rate, mapper, held, client, frames) {
+            Ok((batch, behind)) => {
                 mapper = batch.mapper;
                 held = behind;
                 written += batch.frames as u64;
                 bytes = bytes.wrapping_add(batch.bytes as u64);
             }
-            Next::Stopped(stop) => {
+            Err(stop) => {
                 return Totals {
                     frames: written,
-                    bytes: bytes,
+                    bytes,
                     end: End::Stopped(stop),
                 };
             }
@@ -143,29 +121,27 @@ fn map_stream(
     }
     Totals {
         frames: written,
-        bytes: bytes,
+        bytes,
         end: End::Full,
     }
 }
 
-// Reads on until a whole load is held, and maps all that are.
+// Reads on until a whole load is held, and maps all that are: what that came to, and the client
+// bytes held behind it.
 fn map_next(
     streams: &mut Streams,
     rate: Rate,
     mapper: Mapper,
     held: Held,
-    client: &mut [u8],
-    frames: &mut [u8],
-) -> Next
-    requires { Ready rate mapper × (length client.old ≡ 230560) × (length frames.old ≡ 243840) }
+    client: &mut [u8; 230560],
+    frames: &mut [u8; 243840],
+) -> Result<(Batch, Held), Stop>
+    requires { Ready rate mapper }
     ensures { GoesOn rate mapper (held_bytes held client.old) result client.new }
 {
     let least = mapper.source.count as usize;
-    let got = program_stream::supply(streams, client, held, least, b"odu0map: standard input");
-    match got {
-        Supplied::Enough(more) => map_held(streams, rate, mapper, more, client, frames),
-        Supplied::Stopped(stop) => Next::Stopped(stop),
-    }
+    let more = program_stream::supply(streams, client, held, least, b"odu0map: standard input")?;
+    map_held(streams, rate, mapper, more, client, frames)
 }
 
 // Maps the loads that are held and writes their frames. Where that fails nothing more is mapped.
@@ -174,35 +150,29 @@ fn map_held(
     rate: Rate,
     mapper: Mapper,
     held: Held,
-    client: &[u8],
-    frames: &mut [u8],
-) -> Next
-    requires { Ready rate mapper × Has mapper.source.count held client.now × (length client.now ≡ 230560) × (length frames.old ≡ 243840) }
+    client: &[u8; 230560],
+    frames: &mut [u8; 243840],
+) -> Result<(Batch, Held), Stop>
+    requires { Ready rate mapper × Has mapper.source.count held client.now }
     ensures { Goes rate mapper (held_bytes held client.now) result client.now }
 {
-    let at = held.at;
-    let end = held.end;
+    let Held { at, end } = held;
     let loads = &client[at..end];
     let batch = map_loads(rate, mapper, loads, frames);
     let length = 15240 * batch.frames;
-    let done = write_frames(
+    write_frames(
         streams,
         rate,
         mapper,
         loads,
         batch.frames,
         &frames[..length],
-    );
-    match done {
-        Done::Whole => Next::From(
-            batch,
-            Held {
-                at: at + batch.bytes,
-                end: end,
-            },
-        ),
-        Done::Stopped(stop) => Next::Stopped(stop),
-    }
+    )?;
+    let behind = Held {
+        at: at + batch.bytes,
+        end,
+    };
+    Ok((batch, behind))
 }
 
 // Writes the frames of so many loads, all of them and in order, or says why that failed.
@@ -213,7 +183,7 @@ fn write_frames(
     loads: &[u8],
     number: usize,
     frames: &[u8],
-) -> Done
+) -> Result<(), Stop>
     requires { frames.now ≡ frames_after rate mapper loads.now number }
     ensures { Writes result }
 {
@@ -221,34 +191,31 @@ fn write_frames(
 }
 
 // Maps the whole loads at the start of the client bytes, at most 16, each by the mapper that the
-// one before it left.
-fn map_loads(rate: Rate, first: Mapper, client: &[u8], frames: &mut [u8]) -> Batch
-    requires { Ready rate first × (length frames.old ≡ 243840) }
+// one before it left. Not by chunks of the frames: the loads have lengths of their own.
+fn map_loads(rate: Rate, first: Mapper, client: &[u8], frames: &mut [u8; 243840]) -> Batch
+    requires { Ready rate first }
     ensures { MapsLoads rate first client.now result frames.new }
 {
     let mut mapper = first;
     let mut at = 0;
-    let mut number = 0;
-    while number < 16 {
+    for number in 0..16 {
         let count = mapper.source.count as usize;
         if client.len() - at < count {
             return Batch {
-                mapper: mapper,
+                mapper,
                 frames: number,
                 bytes: at,
             };
         }
-        let end = at + count;
+        let load = &client[at..at + count];
         let place = 15240 * number;
-        let place_end = place + 15240;
-        let load = &client[at..end];
-        mapper = program_map::make_frame(rate, mapper, load, &mut frames[place..place_end]);
-        at = end;
-        number += 1;
+        let frame = &mut frames[place..place + 15240];
+        mapper = program_map::make_frame(rate, mapper, load, frame);
+        at += count;
     }
     Batch {
-        mapper: mapper,
-        frames: number,
+        mapper,
+        frames: 16,
         bytes: at,
     }
 }
@@ -268,7 +235,7 @@ fn show_refusal(error: &mut impl Write, refusal: Refusal) {
     program_say::say(
         error,
         b" (number ",
-        gmp_refusal::refusal_number(Verdict::Refused(refusal)) as u64,
+        u64::from(gmp_refusal::refusal_number(Err(refusal))),
     );
     program_say::tell(error, b")\n");
     show_usage(error);
@@ -277,9 +244,7 @@ fn show_refusal(error: &mut impl Write, refusal: Refusal) {
 // Writes the name of a refusal to standard error.
 fn show_name(error: &mut impl Write, refusal: Refusal) {
     let place = gmp_refusal::refusal_place(refusal) as usize;
-    let names: &[u8] = &NAMES;
-    let lengths: &[usize] = &NAME_LENGTHS;
-    let name = program_name::name_of(names, lengths, place);
+    let name = program_name::name_of(&NAMES, &NAME_LENGTHS, place);
     program_say::tell(error, name);
 }
 

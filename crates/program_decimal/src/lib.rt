@@ -4,46 +4,26 @@
 ghost use Rattle.std.specs.Prelude.{◌≡◌};
 ghost use Rattle.program_decimal.specs.Number.{with_digit, number_of};
 
-// A number of 32 bits, or that a text is none.
-#[derive(Clone, Copy)]
-pub enum Number {
-    Value(u32),
-    Wrong,
-}
-
-// The number that a text spells in decimal.
-pub fn parse(text: &[u8]) -> Number
+// The number of 32 bits that a text spells in decimal, if it spells one.
+pub fn parse(text: &[u8]) -> Option<u32>
     ensures { result ≡ number_of text.now }
 {
-    if text.len() == 0 {
-        return Number::Wrong;
+    if text.is_empty() {
+        return None;
     }
     let mut n = 0;
-    let mut i = 0;
-    while i < text.len() {
-        let longer = with_digit(n, text[i]);
-        let Number::Value(m) = longer else {
-            return Number::Wrong;
-        };
-        n = m;
-        i += 1;
+    for &digit in text {
+        n = with_digit(n, digit)?;
     }
-    Number::Value(n)
+    Some(n)
 }
 
 // The number with one digit more, where that is a digit and the number stays within 32 bits.
-fn with_digit(n: u32, digit: u8) -> Number
+fn with_digit(n: u32, digit: u8) -> Option<u32>
     ensures { result ≡ with_digit n digit }
 {
-    if digit < 48 {
-        return Number::Wrong;
+    match digit {
+        b'0'..=b'9' => n.checked_mul(10)?.checked_add(u32::from(digit - b'0')),
+        _ => None,
     }
-    if 57 < digit {
-        return Number::Wrong;
-    }
-    let longer = n as u64 * 10 + (digit - 48) as u64;
-    if 4294967295 < longer {
-        return Number::Wrong;
-    }
-    Number::Value(longer as u32)
 }

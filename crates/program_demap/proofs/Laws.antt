@@ -19,7 +19,7 @@ use Rattle.card_tally.specs.Ports.{new_tallies, tally_of}
 use Rattle.card_tally.proofs.Ports.{own_port_only}
 use Rattle.gmp_payload_type.specs.declared.Expected.{Expected}
 use Rattle.gmp_sink.specs.declared.SinkState.{SinkState}
-use Rattle.gmp_sink.specs.declared.SinkAnswer.TheVariants.{Done, Refused}
+use Rattle.std.specs.Prelude.{Ok, Err}
 use Rattle.gmp_sink.specs.declared.SinkResult.{SinkResult}
 use Rattle.gmp_sink.specs.Sink.{sink_refusal}
 use Rattle.gmp_sink.proofs.Laws.{answer_accepted, state_accepted, mended_accepted, handed_accepted, out_accepted, never_refused, done_says}
@@ -66,16 +66,16 @@ module _ (wanted : Wanted) (d : Demapper) (frame out : List ℕ) (size : length 
       ∙ own_port_only.own card 1 1 (bad_frames (standing_of wanted d frame)) (length (handed_bytes wanted d frame)) refl refl
 
   module _ (r : SinkResult) (after : List ℕ) (tallies : Tallies) (p : CardPromise s d.state told frame out 1 card r after tallies) where
-    pub not_refused : (x : Refusal) → r.answer ≡ Refused x → ⊥
+    pub not_refused : (x : Refusal) → r.answer ≡ Err x → ⊥
     not_refused = never_refused none_refused p.sink
 
-    pub takes : (x : Standing) → r.answer ≡ Done x → (w : ℕ) → w ≡ standing_number (standing_meaning x).name
+    pub takes : (x : Standing) → r.answer ≡ Ok x → (w : ℕ) → w ≡ standing_number (standing_meaning x).name
         → (tally : Tally) → tally ≡ tally_of tallies 1
         → Takes wanted d frame
         (record { handed = r.handed; standing = x; mended = r.mended; after = record { state = r.state; tally = tally; last = w; multiframe = number_after d.multiframe } }) after
     takes x e w f tally h =
         let says : standing_meaning x ≡ standing_of wanted d frame = done_says none_refused p.sink x e in
-        let n : r.handed ≡ length (handed_bytes wanted d frame) = p.sink.handed_bytes_lem ∙ ap length (handed_accepted s d.state frame told out 1 none_refused) in
+        let n : r.handed ≡ length (handed_bytes wanted d frame) = p.sink.handed_bytes ∙ ap length (handed_accepted s d.state frame told out 1 none_refused) in
         let b =
         first_bytes (handed_bytes wanted d frame) (drop (length (handed_bytes wanted d frame)) out) after r.handed
         (p.sink.out_buffer ∙ out_accepted s d.state frame told out 1 none_refused) n in

@@ -7,10 +7,12 @@ ghost use Rattle.program_demap.specs.Frames.{new_demapper, Takes};
 
 use card_tally::Tally;
 use gmp_payload_type::Expected;
-use gmp_sink::{SinkAnswer, SinkState};
+use gmp_sink::SinkState;
 use gmp_standing::Standing;
 
-// What the arguments ask for: mending, the type check, and the type expected.
+// What the arguments ask for: mending, the type check, and the type expected. The check and the
+// type stand apart, as in the call: the one is a setting, the other is told of each frame. No frame
+// changes them, so they go beside the demapper and are no part of it.
 #[derive(Clone, Copy)]
 pub struct Wanted {
     pub mending: bool,
@@ -19,7 +21,8 @@ pub struct Wanted {
 }
 
 // The sink's state, its port's tally, the number of the last standing, 0 before the first frame,
-// and the multiframe number of the next frame.
+// and the multiframe number of the next frame. The standing stays a number: what it found is in the
+// sink's state, and an Option would need an enum of the standings' names, which nothing else has.
 #[derive(Clone, Copy)]
 pub struct Demapper {
     pub state: SinkState,
@@ -42,14 +45,9 @@ pub struct Taken {
 pub fn new_demapper() -> Demapper
     ensures { result ≡ new_demapper }
 {
-    let state = gmp_sink::new_sink();
     Demapper {
-        state: state,
-        tally: Tally {
-            frames: 0,
-            badcheck: 0,
-            bytes: 0,
-        },
+        state: gmp_sink::new_sink(),
+        tally: Tally::default(),
         last: 0,
         multiframe: 0,
     }
@@ -66,16 +64,12 @@ pub fn demap_frame(wanted: Wanted, demapper: Demapper, frame: &[u8], out: &mut [
         multiframe: demapper.multiframe,
         payload_type: wanted.payload_type,
     };
-    let state = demapper.state;
-    let before = demapper.tally;
     let mut card = card_tally::new_tallies();
-    card.ports[0] = before;
-    let counted = card_sink::lend_call(settings, state, expected, frame, out, 1, card);
+    card.ports[0] = demapper.tally;
+    let counted = card_sink::lend_call(settings, demapper.state, expected, frame, out, 1, card);
     let result = counted.result;
     let tally = card_tally::tally_of(counted.tallies, 1);
-    let answer = result.answer;
-    let after = result.state;
-    let SinkAnswer::Done(standing) = answer else {
+    let Ok(standing) = result.answer else {
         return Taken {
             handed: 0,
             standing: Standing::Waiting,
@@ -85,11 +79,11 @@ pub fn demap_frame(wanted: Wanted, demapper: Demapper, frame: &[u8], out: &mut [
     };
     Taken {
         handed: result.handed,
-        standing: standing,
+        standing,
         mended: result.mended,
         after: Demapper {
-            state: after,
-            tally: tally,
+            state: result.state,
+            tally,
             last: gmp_standing::standing_number(standing),
             multiframe: (demapper.multiframe % 256 + 1) % 256,
         },

@@ -1,4 +1,6 @@
-// The line that odu0demap says of a frame, as much of it as has room.
+// The line that odu0demap says of a frame, as much of it as has room. A struct of the line and its
+// length would be no plainer: each method would have to promise that it keeps to the same line. It
+// is made by hand and not by `write!`: the must-fail edits of `put` hold it to the line's end.
 #![tactic(auto)]
 
 ghost use Rattle.io.specs.Counts.{IsPrefixLen};
@@ -15,10 +17,7 @@ pub fn put_change(line: &mut [u8], frame_number: u64, standing: Standing, was_me
     let c = put(line, b, b": ");
     let d = put_name(line, c, standing);
     let e = put_count(line, d, gmp_standing::found_count(standing));
-    if was_mended {
-        return put(line, e, b" mended\n");
-    }
-    put(line, e, b"\n")
+    put(line, e, if was_mended { b" mended\n" } else { b"\n" })
 }
 
 // Puts the name of a standing behind the first `at` bytes of a line, and gives the length then.
@@ -26,9 +25,7 @@ fn put_name(line: &mut [u8], at: usize, standing: Standing) -> usize
     ensures { IsPrefixLen result line.new }
 {
     let number = gmp_standing::standing_number(standing) as usize;
-    let names: &[u8] = &NAMES;
-    let lengths: &[usize] = &NAME_LENGTHS;
-    let name = program_name::name_of(names, lengths, number);
+    let name = program_name::name_of(&NAMES, &NAME_LENGTHS, number);
     put(line, at, name)
 }
 
@@ -40,7 +37,7 @@ fn put_count(line: &mut [u8], at: usize, count: Count) -> usize
         return put(line, at, b" -");
     };
     let a = put(line, at, b" ");
-    put_number(line, a, n as u64)
+    put_number(line, a, u64::from(n))
 }
 
 // Puts a number there in decimal.
@@ -56,18 +53,8 @@ fn put_number(line: &mut [u8], at: usize, n: u64) -> usize
 fn put(line: &mut [u8], at: usize, text: &[u8]) -> usize
     ensures { IsPrefixLen result line.new }
 {
-    let mut end = at;
-    if line.len() < at {
-        end = line.len();
-    }
-    let mut i = 0;
-    while i < text.len() {
-        if line.len() <= end {
-            return end;
-        }
-        line[end] = text[i];
-        end += 1;
-        i += 1;
-    }
-    end
+    let at = at.min(line.len());
+    let n = text.len().min(line.len() - at);
+    line[at..at + n].copy_from_slice(&text[..n]);
+    at + n
 }

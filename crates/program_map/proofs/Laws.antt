@@ -17,13 +17,11 @@ use Rattle.gmp_settings.specs.Settings.{opu0, outside}
 use Rattle.refusals.proofs.Laws.{none_applies}
 use Rattle.gmp_settings.proofs.Laws.{all_passed}
 use Rattle.gmp_keeper.specs.declared.KeeperResult.{KeeperResult}
-use Rattle.gmp_keeper.specs.declared.KeeperAnswer.TheVariants.{Next, Refused}
+use Rattle.std.specs.Prelude.{Result, Ok, Err}
 use Rattle.gmp_keeper.specs.Keeper.{bad_divisor, bad_rate, bad_remainder, keeper_reasons, keeper_refusal, Kept, answer_meaning, result_meaning, keeper_call, first_remainder}
 use Rattle.gmp_keeper.proofs.Laws.{accepted_knows, count_inside, call_accepted}
 use Rattle.gmp_source.specs.declared.SourceState.{SourceState}
 use Rattle.gmp_source.specs.declared.SourceResult.{SourceResult}
-use Rattle.gmp_source.specs.declared.SourceStart.{SourceStart}
-use Rattle.gmp_source.specs.declared.SourceStart.TheVariants.{New, Refused as NotStarted}
 use Rattle.gmp_source.specs.Source.{start_refusal, start_state, new_source, start_meaning, source_refusal, next_state, source_state, source_frame, written, SourcePromise}
 use Rattle.gmp_source.proofs.Laws.{state_accepted, frame_accepted}
 use Rattle.program_map.specs.declared.Rate.{Rate}
@@ -81,7 +79,7 @@ module _ (a : Rate) (s : Settings) (same : s ≡ opu0) (r : ℕ) (k : KeeperResu
   answers = ap (λ (x : Kept). x.answer) promise ∙ ap (λ (x : Settings). (keeper_call x a.p a.q r).answer) same
 
   -- where it gives a count, that is the count, and the remainder is kept
-  gives : (n : ℕ) → k.answer ≡ Next n → (refusal_from a r ≡ 0) × (n ≡ count_from a r)
+  gives : (n : ℕ) → k.answer ≡ Ok n → (refusal_from a r ≡ 0) × (n ≡ count_from a r)
   gives n e = by_number (refusal_from a r) n (count_from a r) (sym (ap answer_meaning e) ∙ answers)
 
   keeps : refusal_from a r ≡ 0 → k.remainder ≡ kept_from a r
@@ -89,10 +87,10 @@ module _ (a : Rate) (s : Settings) (same : s ≡ opu0) (r : ℕ) (k : KeeperResu
       ap (λ (x : Kept). x.remainder) promise ∙ ap (λ (x : Settings). (keeper_call x a.p a.q r).remainder) same
       ∙ ap (λ (x : Kept). x.remainder) (call_accepted opu0 a.p a.q r z)
 
-  turned_back : (x : Refusal) → k.answer ≡ Refused x → refused (refusal_number x) ≡ answer_by (refusal_from a r) (count_from a r)
+  turned_back : (x : Refusal) → k.answer ≡ Err x → refused (refusal_number x) ≡ answer_by (refusal_from a r) (count_from a r)
   turned_back x e = sym (ap answer_meaning e) ∙ answers
 
-  pub never_refused : (x : Refusal) → refusal_from a r ≡ 0 → k.answer ≡ Refused x → ⊥
+  pub never_refused : (x : Refusal) → refusal_from a r ≡ 0 → k.answer ≡ Err x → ⊥
   never_refused x z e =
       let o : refused (refusal_number x) ≡ answer_by 0 (count_from a r) = turned_back x e ∙ ap (λ (n : ℕ). answer_by n (count_from a r)) z in
       let zero : ◌≡◌ {A = ℕ} 0 1 = cc in
@@ -110,7 +108,7 @@ new_accepted n e = ap (λ (i : ℕ). answer_by i (start_state n 7)) (one_passes 
 
 -- what the code of `make_frame` comes to
 module _ (a : Rate) (m : Mapper) (ready : Ready a m) (load buffer : List ℕ) (full : length load ≡ m.source.count) (size : length buffer ≡ 15240) where
-  pub makes : (s : Settings) → s ≡ opu0 → (k : KeeperResult) → result_meaning k ≡ keeper_call s a.p a.q m.remainder → (n : ℕ) → k.answer ≡ Next n
+  pub makes : (s : Settings) → s ≡ opu0 → (k : KeeperResult) → result_meaning k ≡ keeper_call s a.p a.q m.remainder → (n : ℕ) → k.answer ≡ Ok n
       → (t : Settings) → t ≡ opu0 → (x : SourceResult) (after : List ℕ) → SourcePromise t m.source n load buffer x after
       → Maps a m load (record { source = x.state; remainder = k.remainder }) after
   makes s same k promise n e t same' x after p =
@@ -127,7 +125,7 @@ module _ (a : Rate) (m : Mapper) (ready : Ready a m) (load buffer : List ℕ) (f
       record {
         mapper = ap₂ (λ (y : SourceState) (i : ℕ). record { source = y; remainder = i }) state kept;
         ready = goes_on a m.remainder _ ready.keeper (ap (λ (y : SourceState). y.count) state) kept;
-        frame_bytes_lem = frame;
+        frame_bytes = frame;
       }
 
 -- what the code of `new_mapper` comes to
@@ -143,23 +141,23 @@ module _ (a : Rate) (s : Settings) (same : s ≡ opu0) (r : ℕ) (first : r ≡ 
       ap₂ (λ (y : SourceState) (i : ℕ). accepted (record { source = y; remainder = i })) e f
       ∙ sym (ap (λ (i : ℕ). answer_by i (record { source = start_state (count_from a r) 7; remainder = kept_from a r })) zero) ∙ sym start_by
 
-  pub start_refused : (x : Refusal) → k.answer ≡ Refused x → refused (refusal_number x) ≡ start_answer a
+  pub start_refused : (x : Refusal) → k.answer ≡ Err x → refused (refusal_number x) ≡ start_answer a
   start_refused x e = refused_by_number (refusal_from a r) (refusal_number x) (count_from a r) _ (turned_back a s same r k promise x e) ∙ sym start_by
 
-  module _ (n : ℕ) (e : k.answer ≡ Next n) (t : Settings) (same' : t ≡ opu0) (x : SourceStart) (p : start_meaning x ≡ new_source t n 7) where
+  module _ (n : ℕ) (e : k.answer ≡ Ok n) (t : Settings) (same' : t ≡ opu0) (x : Result SourceState Refusal) (p : start_meaning x ≡ new_source t n 7) where
     started : start_meaning x ≡ accepted (start_state (count_from a r) 7)
     started =
         let g = gives a s same r k promise n e in
         let in_window = count_inside opu0 a.p a.q r (accepted_knows opu0 a.p a.q r g.0) in
         p ∙ ap₂ (λ (y : Settings) (i : ℕ). new_source y i 7) same' g.1 ∙ new_accepted (count_from a r) in_window
 
-    pub source_starts : (y : Refusal) → x ≡ NotStarted y → ⊥
+    pub source_starts : (y : Refusal) → x ≡ Err y → ⊥
     source_starts y told' =
         let o : refused (refusal_number y) ≡ accepted (start_state (count_from a r) 7) = sym (ap start_meaning told') ∙ started in
         let zero : ◌≡◌ {A = ℕ} 0 1 = cc in
         omega arith
 
-    pub start_made : (z : SourceState) → x ≡ New z → accepted (record { source = z; remainder = k.remainder }) ≡ start_answer a
+    pub start_made : (z : SourceState) → x ≡ Ok z → accepted (record { source = z; remainder = k.remainder }) ≡ start_answer a
     start_made z told' =
         let g = gives a s same r k promise n e in
         let o : accepted z ≡ accepted (start_state (count_from a r) 7) = sym (ap start_meaning told') ∙ started in

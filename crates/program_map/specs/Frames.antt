@@ -7,8 +7,8 @@ use Rattle.gmp_keeper.specs.Keeper.{keeper_refusal, first_remainder}
 use Rattle.gmp_source.specs.Source.{start_state, next_state, written}
 use Rattle.program_map.specs.declared.Rate.{Rate}
 use Rattle.program_map.specs.declared.Mapper.{Mapper}
-use Rattle.program_map.specs.declared.Start.{Start}
-use Rattle.program_map.specs.declared.Start.TheVariants.{New, Refused}
+use Rattle.std.specs.Prelude.{Result, Ok, Err}
+use Rattle.gmp_refusal.specs.declared.Refusal.{Refusal}
 
 -- the count that the keeper gives from the remainder r, and the remainder that it keeps
 abbrev pub count_from : Rate → ℕ → ℕ
@@ -34,9 +34,9 @@ unfoldable pub start_answer : Rate → Answer Mapper
 start_answer a = answer_by (refusal_from a (first_remainder a.q)) (new_mapper a)
 
 -- the paper's number and value for each case
-abbrev pub start_meaning : Start → Answer Mapper
-start_meaning (New m) = accepted m
-start_meaning (Refused r) = refused (refusal_number r)
+abbrev pub start_meaning : Result Mapper Refusal → Answer Mapper
+start_meaning (Ok m) = accepted m
+start_meaning (Err r) = refused (refusal_number r)
 
 -- A mapper that goes on: the keeper accepts, and the source's count is in the window.
 pub record Ready (a : Rate) (m : Mapper) : Type 0 where
@@ -52,4 +52,4 @@ mapped a m = record { source = next_state m.source (count_from a m.remainder); r
 pub record Maps (a : Rate) (m : Mapper) (load : List ℕ) (r : Mapper) (frame : List ℕ) : Type 0 where
   pub mapper : r ≡ mapped a m
   pub ready : Ready a r
-  pub frame_bytes_lem : frame ≡ written opu0 m.source (count_from a m.remainder) load
+  pub frame_bytes : frame ≡ written opu0 m.source (count_from a m.remainder) load

@@ -2,18 +2,17 @@
 // something failed. Where standard error takes no bytes nothing is said.
 #![tactic(auto)]
 
-use program_decimal::Number;
 use std::env::{Env, FillError};
 use std::io::{Cursor, Error, Write};
 
+// What the library puts between a reason and its number.
+const BEFORE_NUMBER: &[u8] = b" (os error ";
+
 // How many arguments the program was started with, its own name among them.
 pub fn argument_count(env: &impl Env) -> usize {
-    for i in 0..usize::MAX {
-        if !has_argument(env, i) {
-            return i;
-        }
-    }
-    usize::MAX
+    (0..usize::MAX)
+        .find(|&i| !has_argument(env, i))
+        .unwrap_or(usize::MAX)
 }
 
 // Whether there is an argument i, of any length.
@@ -22,12 +21,10 @@ fn has_argument(env: &impl Env, i: usize) -> bool {
 }
 
 // The number that an argument spells in decimal, in at most 64 bytes.
-pub fn argument(env: &impl Env, i: usize) -> Number {
+pub fn argument(env: &impl Env, i: usize) -> Option<u32> {
     let mut text = [0u8; 64];
-    match env.arg(i, &mut text) {
-        Ok(n) => program_decimal::parse(&text[..n]),
-        Err(_) => Number::Wrong,
-    }
+    let n = env.arg(i, &mut text).ok()?;
+    program_decimal::parse(&text[..n])
 }
 
 // Writes a text to standard error.
@@ -61,10 +58,10 @@ pub fn say_failed(error: &mut impl Write, name: &[u8], why: Error) {
 // The reason alone, in the system's words: what stands before the number that the library puts
 // behind them, and before the zeros that fill the rest.
 fn reason(text: &[u8]) -> &[u8] {
-    for i in 0..text.len() {
-        if text[i] == 0 || text[i..].starts_with(b" (os error ") {
-            return &text[..i];
-        }
-    }
-    text
+    let end = text.iter().position(|&byte| byte == 0);
+    let text = &text[..end.unwrap_or(text.len())];
+    let end = text
+        .windows(BEFORE_NUMBER.len())
+        .position(|part| part == BEFORE_NUMBER);
+    &text[..end.unwrap_or(text.len())]
 }

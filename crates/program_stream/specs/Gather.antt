@@ -1,18 +1,14 @@
 -- What reading and writing promise, and how a run ends. Which bytes are read no contract can say;
 -- that those which were held already are not lost, doubled or moved past another is said here, and
 -- that a program stops for no reason but those of `Why`. Assumes nothing.
-use Rattle.std.specs.Prelude.{◌≡◌, List, [], ℕ, ◌-◌, ◌≤◌, ◌<◌, length, take}
+use Rattle.std.specs.Prelude.{◌≡◌, List, [], ℕ, ◌-◌, ◌≤◌, ◌<◌, length, take, Result, Ok, Err}
 use Rattle.program_keep.specs.Keep.{between}
 use Rattle.program_stream.specs.declared.Why.{Why}
 use Rattle.program_stream.specs.declared.Why.TheVariants.{Ended, Unread, Unwritten}
 use Rattle.program_stream.specs.declared.Stop.{Stop}
 use Rattle.program_stream.specs.declared.End.{End}
-use Rattle.program_stream.specs.declared.End.TheVariants.{Stopped as StoppedRun, Full}
-use Rattle.program_stream.specs.declared.Done.{Done}
-use Rattle.program_stream.specs.declared.Done.TheVariants.{Whole, Stopped as Cut}
+use Rattle.program_stream.specs.declared.End.TheVariants.{Stopped, Full}
 use Rattle.program_stream.specs.declared.Held.{Held}
-use Rattle.program_stream.specs.declared.Supplied.{Supplied}
-use Rattle.program_stream.specs.declared.Supplied.TheVariants.{Enough, Stopped}
 
 abbrev pub held_bytes : Held → List ℕ → List ℕ
 held_bytes h block = between h.at h.end block
@@ -52,21 +48,21 @@ Stops old least Unread after = Unit
 Stops old least Unwritten after = Unit
 
 -- What filling a block comes to.
-abbrev pub Gathers : List ℕ → Done → List ℕ → Type 0
-Gathers block Whole after = Unit
-Gathers block (Cut s) after = StopsReading [] (length block) s.why after
+abbrev pub Gathers : List ℕ → Result (Unit {0}) Stop → List ℕ → Type 0
+Gathers block (Ok done) after = Unit
+Gathers block (Err s) after = StopsReading [] (length block) s.why after
 
 -- What asking for bytes comes to, where these were there before.
-abbrev pub Holding : List ℕ → ℕ → Supplied → List ℕ → Type 0
-Holding old least (Enough h) after = Holds old least h after
-Holding old least (Stopped s) after = StopsReading old least s.why after
+abbrev pub Holding : List ℕ → ℕ → Result Held Stop → List ℕ → Type 0
+Holding old least (Ok h) after = Holds old least h after
+Holding old least (Err s) after = StopsReading old least s.why after
 
 -- behind the first bytes of a block
-abbrev pub Fills : List ℕ → ℕ → ℕ → Supplied → List ℕ → Type 0
+abbrev pub Fills : List ℕ → ℕ → ℕ → Result Held Stop → List ℕ → Type 0
 Fills block have least r after = Holding (take have block) least r after
 
 -- and behind those that it holds
-abbrev pub Supplies : List ℕ → Held → ℕ → Supplied → List ℕ → Type 0
+abbrev pub Supplies : List ℕ → Held → ℕ → Result Held Stop → List ℕ → Type 0
 Supplies block h least r after = Holding (held_bytes h block) least r after
 
 -- a stop for a write that failed
@@ -74,9 +70,9 @@ abbrev pub IsUnwritten : Stop → Type 0
 IsUnwritten s = s.why ≡ Unwritten
 
 -- What writing comes to.
-abbrev pub Writes : Done → Type 0
-Writes Whole = Unit
-Writes (Cut s) = IsUnwritten s
+abbrev pub Writes : Result (Unit {0}) Stop → Type 0
+Writes (Ok done) = Unit
+Writes (Err s) = IsUnwritten s
 
 -- How a run of frames ends, where the next one takes so many bytes: the input ended and fewer are
 -- left, a read failed, a write failed, or the frames are as many as can be counted.
@@ -86,7 +82,7 @@ EndsFor least Unread = Unit
 EndsFor least Unwritten = Unit
 
 abbrev pub Ends : ℕ → ℕ → ℕ → End → Type 0
-Ends most frames least (StoppedRun s) = EndsFor least s.why
+Ends most frames least (Stopped s) = EndsFor least s.why
 Ends most frames least Full = most ≤ frames
 
 -- the number of bytes left at a run's end, and 0 where the input did not end
@@ -96,5 +92,5 @@ left_for Unread = 0
 left_for Unwritten = 0
 
 abbrev pub left_of : End → ℕ
-left_of (StoppedRun s) = left_for s.why
+left_of (Stopped s) = left_for s.why
 left_of Full = 0

@@ -34,45 +34,30 @@ pub struct Stop {
     why: Why,
 }
 
-// How a run ended: it was stopped, or it had as many frames as it can count.
+// How a run ended: it was stopped, or it had as many frames as it can count. An Option<Stop> would
+// be no plainer: its None would not say that the run was full.
 #[derive(Drop)]
 pub enum End {
     Stopped(Stop),
     Full,
 }
 
-// What filling a block or writing one came to: all of it, or a stop.
-#[derive(Drop)]
-pub enum Done {
-    Whole,
-    Stopped(Stop),
-}
-
-// The bytes of a block that were read and not yet taken: from place `at` up to place `end`.
+// The bytes of a block that were read and not yet taken: from place `at` up to place `end`. They
+// are places and no slice, since the block is written behind them while they are held.
 #[derive(Clone, Copy)]
 pub struct Held {
     pub at: usize,
     pub end: usize,
 }
 
-// What asking for bytes came to: enough of them, or a stop.
-#[derive(Drop)]
-pub enum Supplied {
-    Enough(Held),
-    Stopped(Stop),
-}
-
 // Fills a block from standard input, by as many reads as it takes. The name is said where one
 // fails.
-pub fn gather(streams: &mut Streams, block: &mut [u8], name: &[u8]) -> Done
+pub fn gather(streams: &mut Streams, block: &mut [u8], name: &[u8]) -> Result<(), Stop>
     ensures { Gathers block.old result block.new }
 {
     let least = block.len();
-    let got = read_behind(streams, block, 0, least, name);
-    match got {
-        Supplied::Enough(_) => Done::Whole,
-        Supplied::Stopped(stop) => Done::Stopped(stop),
-    }
+    read_behind(streams, block, 0, least, name)?;
+    Ok(())
 }
 
 // Holds at least so many bytes of standard input in a block, those that it holds already first.
@@ -86,17 +71,12 @@ pub fn supply(
     held: Held,
     least: usize,
     name: &[u8],
-) -> Supplied
+) -> Result<Held, Stop>
     ensures { Supplies block.old held least result block.new }
 {
-    let at = held.at;
-    let end = held.end;
-    if at <= end {
-        if end <= block.len() {
-            if least <= end - at {
-                return Supplied::Enough(held);
-            }
-        }
+    let Held { at, end } = held;
+    if at <= end && end <= block.len() && least <= end - at {
+        return Ok(held);
     }
     let kept = program_keep::keep(block, at, end);
     read_behind(streams, block, kept, least, name)
@@ -110,25 +90,26 @@ fn read_behind(
     have: usize,
     least: usize,
     name: &[u8],
-) -> Supplied
+) -> Result<Held, Stop>
     requires { have ≤ length block.old }
     ensures { Fills block.old have least result block.new }
 {
     let size = block.len();
     let mut end = have;
+    // Not a `for`: how many bytes a read gives is not known before.
     while end < least {
         if size <= end {
-            return Supplied::Enough(Held { at: 0, end: end });
+            return Ok(Held { at: 0, end });
         }
         let part = &mut block[end..];
         let got = streams.input.read(part);
         match got {
-            Ok(0) => return Supplied::Stopped(ended(size, part, got, end)),
+            Ok(0) => return Err(ended(size, part, got, end)),
             Ok(n) => end += n,
-            Err(_) => return Supplied::Stopped(unread(&mut streams.error, got, name)),
+            Err(_) => return Err(unread(&mut streams.error, got, name)),
         }
     }
-    Supplied::Enough(Held { at: 0, end: end })
+    Ok(Held { at: 0, end })
 }
 
 // The input ended and so many bytes of it are left: a read that had room gave none, into the part
@@ -142,7 +123,8 @@ fn ended(size: usize, part: &[u8], got: io::Result<usize>, left: usize) -> Stop
     }
 }
 
-// A read failed: says so, and the system's reason.
+// A read failed: says so, and the system's reason. One function for this and a failed write would
+// be no plainer: it would take the reason to stop as an argument, and any of them would do.
 fn unread(error: &mut impl Write, got: io::Result<usize>, name: &[u8]) -> Stop
     requires { IsErr got }
     ensures { result.why ≡ Why.Unread }
@@ -152,22 +134,22 @@ fn unread(error: &mut impl Write, got: io::Result<usize>, name: &[u8]) -> Stop
 }
 
 // Writes bytes to standard output, all of them, or says by this name that it failed.
-pub fn write_out(streams: &mut Streams, bytes: &[u8], name: &[u8]) -> Done
+pub fn write_out(streams: &mut Streams, bytes: &[u8], name: &[u8]) -> Result<(), Stop>
     ensures { Writes result }
 {
     let put = streams.output.write_all(bytes);
     if put.is_ok() {
         return written(put);
     }
-    Done::Stopped(unwritten(&mut streams.error, put, name))
+    Err(unwritten(&mut streams.error, put, name))
 }
 
 // All was written.
-fn written(put: io::Result<()>) -> Done
+fn written(put: io::Result<()>) -> Result<(), Stop>
     requires { IsOk put }
-    ensures { result ≡ Done.Whole }
+    ensures { result ≡ Ok tt }
 {
-    Done::Whole
+    Ok(())
 }
 
 // A write failed: says so, and the system's reason.

@@ -4,8 +4,7 @@ use Rattle.std.specs.Prelude.{Bool, true, false, cond, ◌&&◌, List, ℕ, eqb}
 use Rattle.gmp_standing.specs.declared.Count.{Count}
 use Rattle.gmp_standing.specs.declared.Count.TheVariants.{Known, Unknown}
 use Rattle.gmp_standing.specs.Standing.{Finding, standing_number}
-use Rattle.gmp_payload_type.specs.declared.AcceptedType.{AcceptedType}
-use Rattle.gmp_payload_type.specs.declared.AcceptedType.TheVariants.{PayloadType, NoType}
+use Rattle.std.specs.Prelude.{Option, Some, None}
 use Rattle.gmp_sink.specs.Sink.{mended_in}
 use Rattle.program_demap.specs.declared.Wanted.{Wanted}
 use Rattle.program_demap.specs.declared.Demapper.{Demapper}
@@ -28,11 +27,11 @@ abbrev pub has_no_line : Demapper → Finding → Bool → Bool
 has_no_line d f mended = cond mended false (is_same d f)
 
 -- two accepted types are the same, or there is none both times
-abbrev pub same_type : AcceptedType → AcceptedType → Bool
-same_type (PayloadType n) (PayloadType m) = eqb n m
-same_type (PayloadType n) NoType = false
-same_type NoType (PayloadType m) = false
-same_type NoType NoType = true
+abbrev pub same_type : Option ℕ → Option ℕ → Bool
+same_type (Some n) (Some m) = eqb n m
+same_type (Some n) None = false
+same_type None (Some m) = false
+same_type None None = true
 
 -- nothing is to be told of a frame: its standing has no line, and the accepted type stays
 abbrev pub nothing_to_tell_by : Demapper → Finding → Bool → Demapper → Bool

@@ -1,7 +1,8 @@
 -- What the parts of the program promise. Assumes nothing.
-use Rattle.std.specs.Prelude.{◌≡◌, ℕ, ◌+◌, length, take}
+use Rattle.std.specs.Prelude.{◌≡◌, ℕ, ◌+◌, length, take, Result, Ok, Err}
 use mathlib.Core.List.{List, ◌++◌, foldl}
 use Rattle.io.specs.Counts.{IsPrefixLen}
+use Rattle.program_stream.specs.declared.Stop.{Stop}
 use Rattle.program_stream.specs.Gather.{IsUnwritten, EndsFor, Ends}
 use Rattle.gmp_settings.specs.declared.Settings.{Settings}
 use Rattle.gmp_settings.specs.Settings.{new_settings}
@@ -9,8 +10,6 @@ use Rattle.gmp_frame.specs.Frame.{control_of}
 use Rattle.gmp_sink.specs.Sink.{new_sink, handed, standing_after, state_after}
 use Rattle.sinkshow.specs.declared.Run.{Run}
 use Rattle.sinkshow.specs.declared.Shown.{Shown}
-use Rattle.sinkshow.specs.declared.Next.{Next}
-use Rattle.sinkshow.specs.declared.Next.TheVariants.{From, Stopped}
 use Rattle.sinkshow.specs.declared.All.{All}
 use Rattle.sinkshow.specs.Lines.{frame_line}
 
@@ -42,15 +41,15 @@ pub record Shows (n : Run) (frame : List ℕ) (line : List ℕ) (r : Shown) (aft
   pub next : r.after ≡ run_after n frame
 
 -- what is gone on from: the run after the frame; or its line could not be written
-abbrev pub Goes : Run → List ℕ → Next → Type 0
-Goes n frame (From r) = r ≡ run_after n frame
-Goes n frame (Stopped s) = IsUnwritten s
+abbrev pub Goes : Run → List ℕ → Result Run Stop → Type 0
+Goes n frame (Ok r) = r ≡ run_after n frame
+Goes n frame (Err s) = IsUnwritten s
 
 -- and where the frame is read: the run after some frame of 16 bytes; or there is a stop, at the
 -- input's end with less than a frame left
-abbrev pub GoesOn : Run → Next → Type 0
-GoesOn n (From r) = (frame : List ℕ) × (length frame ≡ 16) × (r ≡ run_after n frame)
-GoesOn n (Stopped s) = EndsFor 16 s.why
+abbrev pub GoesOn : Run → Result Run Stop → Type 0
+GoesOn n (Ok r) = (frame : List ℕ) × (length frame ≡ 16) × (r ≡ run_after n frame)
+GoesOn n (Err s) = EndsFor 16 s.why
 
 -- All frames: the run at the end is a new one after some frames, each once and in order. And why
 -- it ended: the input did, with less than a frame left, a read or a write failed, or there are

@@ -1,6 +1,7 @@
 // The program of 01: it shows what a new sink makes of the 16-byte frames on standard input (K = 2,
 // window 0 to 8), a line for each frame, and a last line where the input ends within one. Every
-// byte of a line is promised by the functions that make it.
+// byte of a line is promised by the functions that make it, and std's write! promises none: so a
+// line is made by hand.
 #![tactic(auto)]
 
 ghost use Rattle.std.specs.Prelude.{◌≡◌, ◌+◌, ◌≤◌, ◌<◌, length};
@@ -10,9 +11,9 @@ ghost use Rattle.sinkshow.specs.Lines.{decimal, count_text, numbers_text, standi
 ghost use Rattle.sinkshow.specs.Show.{new_run, Puts, Shows, Goes, GoesOn, ShowsAll};
 
 use gmp_payload_type::Expected;
-use gmp_sink::{SinkAnswer, SinkState};
+use gmp_sink::SinkState;
 use gmp_standing::{Count, NAME_LENGTHS, NAMES, Standing};
-use program_stream::{Done, End, Stop, Streams};
+use program_stream::{End, Stop, Streams};
 
 // How far a run has come: the sink's state, and how many frames it has taken.
 #[derive(Clone, Copy)]
@@ -26,13 +27,6 @@ struct Run {
 struct Shown {
     length: usize,
     after: Run,
-}
-
-// The run to go on from, or a stop.
-#[derive(Drop)]
-enum Next {
-    From(Run),
-    Stopped(Stop),
 }
 
 // All frames shown: the run at its end, and how it ended.
@@ -54,27 +48,25 @@ fn main(rt: HostRuntime) {
 }
 
 // Shows frame after frame from a new run on until there is a stop, and gives the run at its end. A
-// proved loop has to end: this one does at the largest frame number, which no run reaches.
+// proved loop has to end: this one does at the largest frame number, which no run reaches. A for
+// would count the run's frames a second time.
 fn show_all(streams: &mut Streams) -> All
     ensures { ShowsAll result }
 {
     let mut run = new_run();
     while run.frames < u64::MAX {
-        let next = show_next(streams, run);
-        match next {
-            Next::From(after) => {
-                run = after;
-            }
-            Next::Stopped(stop) => {
+        match show_next(streams, run) {
+            Ok(after) => run = after,
+            Err(stop) => {
                 return All {
-                    run: run,
+                    run,
                     end: End::Stopped(stop),
                 };
             }
         }
     }
     All {
-        run: run,
+        run,
         end: End::Full,
     }
 }
@@ -83,41 +75,33 @@ fn show_all(streams: &mut Streams) -> All
 fn new_run() -> Run
     ensures { result ≡ new_run }
 {
-    let state = gmp_sink::new_sink();
     Run {
-        state: state,
+        state: gmp_sink::new_sink(),
         frames: 0,
     }
 }
 
-// Reads the next frame and shows it.
-fn show_next(streams: &mut Streams, run: Run) -> Next
+// Reads the next frame and shows it, and gives the run to go on from. That one frame more can be
+// counted is asked here and of the two functions below: a type for it would be no plainer.
+fn show_next(streams: &mut Streams, run: Run) -> Result<Run, Stop>
     requires { run.frames < 18446744073709551615 }
     ensures { GoesOn run result }
 {
     let mut frame = [0u8; 16];
-    let got = program_stream::gather(streams, &mut frame, b"sinkshow: standard input");
-    match got {
-        Done::Whole => show_frame(streams, run, &frame),
-        Done::Stopped(stop) => Next::Stopped(stop),
-    }
+    program_stream::gather(streams, &mut frame, b"sinkshow: standard input")?;
+    show_frame(streams, run, &frame)
 }
 
 // Takes a frame and writes its line. Where that fails nothing more is shown. Three numbers of up to
 // 20 digits, a name of up to 8 letters and 4 bytes between and after them are 72 bytes.
-fn show_frame(streams: &mut Streams, run: Run, frame: &[u8]) -> Next
-    requires { (length frame.now ≡ 16) × (run.frames < 18446744073709551615) }
+fn show_frame(streams: &mut Streams, run: Run, frame: &[u8; 16]) -> Result<Run, Stop>
+    requires { run.frames < 18446744073709551615 }
     ensures { Goes run frame.now result }
 {
     let mut line = [0u8; 72];
     let shown = take_frame(run, frame, &mut line);
-    let length = shown.length;
-    let after = shown.after;
-    let done = write_line(streams, &line[..length]);
-    match done {
-        Done::Whole => Next::From(after),
-        Done::Stopped(stop) => Next::Stopped(stop),
-    }
+    write_line(streams, &line[..shown.length])?;
+    Ok(shown.after)
 }
 
 // Writes the last line, where a byte or more is left.
@@ -132,11 +116,11 @@ fn show_rest(streams: &mut Streams, end: &End) {
 fn write_rest(streams: &mut Streams, end: &End, line: &[u8])
     requires { line.now ≡ rest_text (left_of end.now) }
 {
-    write_line(streams, line);
+    let _ = write_line(streams, line);
 }
 
 // Writes a line to standard output.
-fn write_line(streams: &mut Streams, line: &[u8]) -> Done
+fn write_line(streams: &mut Streams, line: &[u8]) -> Result<(), Stop>
     ensures { Writes result }
 {
     program_stream::write_out(streams, line, b"sinkshow: standard output")
@@ -145,21 +129,18 @@ fn write_line(streams: &mut Streams, line: &[u8]) -> Done
 // Hands a frame to the sink, as one of port 1, and makes its line. The payload type is not checked,
 // so what the sink is told of the frame is not looked at. With 16 bytes, these settings, this
 // output buffer and this port no call is refused.
-fn take_frame(run: Run, frame: &[u8], line: &mut [u8]) -> Shown
-    requires { (length frame.now ≡ 16) × (72 ≤ length line.old) × (run.frames < 18446744073709551615) }
+fn take_frame(run: Run, frame: &[u8; 16], line: &mut [u8; 72]) -> Shown
+    requires { run.frames < 18446744073709551615 }
     ensures { Shows run frame.now line.old result line.new }
 {
     let settings = gmp_settings::new_settings(2, 0, 8);
-    let state = run.state;
     let mut out = [0u8; 8];
     let untold = Expected {
         multiframe: 0,
         payload_type: 0,
     };
-    let result = gmp_sink_call::take_frame(settings, state, untold, frame, &mut out, 1);
-    let answer = result.answer;
-    let after = result.state;
-    let SinkAnswer::Done(standing) = answer else {
+    let result = gmp_sink_call::take_frame(settings, run.state, untold, frame, &mut out, 1);
+    let Ok(standing) = result.answer else {
         return Shown {
             length: 0,
             after: run,
@@ -170,7 +151,7 @@ fn take_frame(run: Run, frame: &[u8], line: &mut [u8]) -> Shown
     Shown {
         length: put_standing(line, at, standing),
         after: Run {
-            state: after,
+            state: result.state,
             frames: frame_number,
         },
     }
@@ -225,14 +206,14 @@ fn put_standing(line: &mut [u8], at: usize, standing: Standing) -> usize
 }
 
 // Puts the name of a standing behind the first `at` bytes of a line, and gives the length then.
+// This and `put_number` are no twins of program_line's: those cut what has no room, and promise no
+// byte.
 fn put_name(line: &mut [u8], at: usize, standing: Standing) -> usize
     requires { at + 8 ≤ length line.old }
     ensures { Puts line.old at (standing_meaning standing).name result line.new }
 {
     let number = gmp_standing::standing_number(standing) as usize;
-    let names: &[u8] = &NAMES;
-    let lengths: &[usize] = &NAME_LENGTHS;
-    let name = program_name::name_of(names, lengths, number);
+    let name = program_name::name_of(&NAMES, &NAME_LENGTHS, number);
     put(line, at, name)
 }
 
@@ -241,8 +222,7 @@ fn put_count(line: &mut [u8], at: usize, standing: Standing) -> usize
     requires { at + 20 ≤ length line.old }
     ensures { Puts line.old at (count_text (standing_meaning standing).count) result line.new }
 {
-    let count = gmp_standing::found_count(standing);
-    let Count::Known(n) = count else {
+    let Count::Known(n) = gmp_standing::found_count(standing) else {
         return put(line, at, b"-");
     };
     put_number(line, at, n as u64)

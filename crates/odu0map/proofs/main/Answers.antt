@@ -6,5 +6,5 @@ use Rattle.odu0map.proofs.main.Goals as goal
 
 pub map_all-totals-requires : goal.map_all-totals-requires
 map_all-totals-requires c =
-    let a = c.in-At.rate in
-    starts_ready a c.in-New.mapper (sym (ap start_meaning c.in-New.is) ∙ c.new_mapper-start.ensures)
+    let a = c.in-Some.rate in
+    starts_ready a c.in-Ok.mapper (sym (ap start_meaning c.in-Ok.is) ∙ c.new_mapper.ensures)

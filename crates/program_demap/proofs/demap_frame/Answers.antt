@@ -30,4 +30,4 @@ returns c size room =
     (c.with_mending-mending.ensures ∙ ap (λ (s : Settings). with_mending s g.wanted.mending) c.opu0.ensures) in
     let promise = rw (settings, c.new_tallies-card.ensures) at k.ensures in
     takes g.wanted g.demapper g.frame.now g.out.now size room k.result.result _ k.result.tallies promise _
-    c.in-Done.is _ c.standing_number.ensures _ c.tally_of-tally.ensures
+    c.in-Ok.is _ c.standing_number.ensures _ c.tally_of-tally.ensures

@@ -17,7 +17,7 @@ returns c ready full size =
     let g = start.args in
     let same = c.opu0.ensures in
     let k = c.next_count-kept in
-    let next = c.in-Next.is in
+    let next = c.in-Ok.is in
     let same' = c.opu0-2.ensures in
     let x = c.source_call-result in
     makes g.rate g.mapper ready g.load.now g.frame.now full size

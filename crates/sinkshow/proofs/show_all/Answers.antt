@@ -12,17 +12,17 @@ loop-run-init c = along_start _ c.new_run-run.ensures
 pub loop-run-smaller : goal.loop-run-smaller
 loop-run-smaller c =
     let l = c.loop-run in
-    omega (arith, one_further l.run _ (subst (GoesOn l.run) c.in-From.is c.show_next-next.ensures))
+    omega (arith, one_further l.run _ (subst (GoesOn l.run) c.in-Ok.is c.show_next.ensures))
 
 pub loop-run-preserved : goal.loop-run-preserved
 loop-run-preserved c =
     let l = c.loop-run in
-    along_next l.run _ l.invariant (omega (arith, c.loop-run-test.true)) (subst (GoesOn l.run) c.in-From.is c.show_next-next.ensures)
+    along_next l.run _ l.invariant (omega (arith, c.loop-run-test.true)) (subst (GoesOn l.run) c.in-Ok.is c.show_next.ensures)
 
-pub returns-in-Stopped : goal.returns-in-Stopped
-returns-in-Stopped c =
+pub returns-in-Err : goal.returns-in-Err
+returns-in-Err c =
     let l = c.loop-run in
-    run_stopped l.run l.invariant c.in-Stopped.stop (subst (GoesOn l.run) c.in-Stopped.is c.show_next-next.ensures)
+    run_stopped l.run l.invariant c.in-Err.stop (subst (GoesOn l.run) c.in-Err.is c.show_next.ensures)
 
 pub returns : goal.returns
 returns c = run_full c.loop-run.run c.loop-run.invariant (omega (arith, c.loop-run-test.false))

@@ -12,14 +12,14 @@ returns-in_default c =
     let g = start.args in
     let t = c.take_frame-result in
     let promise = rw c.new_settings-settings.ensures at t.ensures in
-    absurd (not_refused g.run g.frame.now _ start.requires.0 refl t.result _ _ promise _ c.in_default.is)
+    absurd (not_refused g.run g.frame.now _ (omega arith) refl t.result _ _ promise _ c.in_default.is)
 
 pub put_standing-requires : goal.put_standing-requires
 put_standing-requires c =
     let g = c.args in
     let t = c.take_frame-result in
     let p = c.put_numbers-at.ensures in
-    omega (arith, p.next, p.kept, numbers_within (g.run.frames + 1) t.result.handed, c.requires.1)
+    omega (arith, p.next, p.kept, numbers_within (g.run.frames + 1) t.result.handed)
 
 pub returns : goal.returns
 returns c =
@@ -27,7 +27,7 @@ returns c =
     let g = start.args in
     let t = c.take_frame-result in
     let promise = rw c.new_settings-settings.ensures at t.ensures in
-    let done = c.in-Done.is in
+    let done = c.in-Ok.is in
     let numbers = c.put_numbers-at.ensures in
     let standing = c.put_standing.ensures in
-    shown g.run g.frame.now _ start.requires.0 refl t.result _ _ promise _ done _ _ _ _ _ numbers standing
+    shown g.run g.frame.now _ (omega arith) refl t.result _ _ promise _ done _ _ _ _ _ numbers standing
