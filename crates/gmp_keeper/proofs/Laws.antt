@@ -1,5 +1,5 @@
 -- What an accepted call of the keeper knows, and what it gives. Assumes nothing.
-use mathlib.Core.Path.{◌≡◌, ap}
+use mathlib.Core.Path.{◌≡◌, refl, ap}
 use mathlib.Core.Bool.{false}
 use Prim.Native.Nat.{ℕ, ◌+◌, ◌*◌, ◌/◌, ◌%◌, ◌≤◌, ◌<◌}
 use native.Mathlib.Nat.{add-mul, mul-le-mul, le-div_iff_mul-le, div-lt_iff_lt-mul}
@@ -13,7 +13,11 @@ use Rattle.gmp_settings.specs.Settings.{Fit, outside}
 use Rattle.gmp_settings.specs.Patterns.{bad_patterns}
 use Rattle.refusals.proofs.Laws.{none_applies}
 use Rattle.gmp_settings.proofs.Laws.{settings_fit, all_passed}
-use Rattle.gmp_keeper.specs.Keeper.{bad_divisor, bad_rate, bad_remainder, keeper_reasons, keeper_refusal, kept_by, keeper_call}
+use Rattle.gmp_keeper.specs.Keeper.{bad_divisor, bad_rate, bad_remainder, keeper_reasons, keeper_refusal, NumbersAscend, kept_by, keeper_call}
+
+pub numbers_ascend : NumbersAscend
+unfolding keeper_refusal
+numbers_ascend s p q r = (refl, refl)
 
 -- a call to which no line applies
 pub record Accepted (s : Settings) (p q r : ℕ) : Type 0 where

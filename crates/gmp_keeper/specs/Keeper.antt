@@ -1,8 +1,8 @@
 -- The rate keeper (01, "Source and rate keeper"): "It gives the whole part of (r + p) / q as the
 -- next count and keeps (r + p) mod q." Assumes nothing.
-use Rattle.std.specs.Prelude.{Bool, cond, ◌||◌, List, [], ◌∷◌, ◌++◌, ℕ, ◌+◌, ◌*◌, ◌/◌, ◌%◌, eqb, ltb, leb}
+use Rattle.std.specs.Prelude.{◌≡◌, Bool, true, cond, ◌||◌, List, [], ◌∷◌, ◌++◌, ℕ, ◌+◌, ◌*◌, ◌/◌, ◌%◌, eqb, ltb, leb}
 use Rattle.gmp_settings.specs.declared.Settings.{Settings}
-use Rattle.refusals.specs.Table.{Reason, reason, lowest, Answer, accepted, refused, answer_by}
+use Rattle.refusals.specs.Table.{Reason, reason, lowest, ascending, Answer, accepted, refused, answer_by}
 use Rattle.gmp_refusal.specs.Refusal.{refusal_number}
 use Rattle.gmp_settings.specs.Settings.{settings_reasons}
 use Rattle.gmp_settings.specs.Patterns.{bad_patterns}
@@ -30,6 +30,13 @@ keeper_reasons s p q r =
 -- why a call is turned back, or 0
 unfoldable pub keeper_refusal : Settings → ℕ → ℕ → ℕ → ℕ
 keeper_refusal s p q r = lowest (settings_reasons s ++ keeper_reasons s p q r)
+
+-- "the lowest number that applies is the answer": a call is turned back by the first line that
+-- applies, and the numbers of the lines ascend
+abbrev pub NumbersAscend : Type 0
+NumbersAscend = (s : Settings) (p q r : ℕ)
+    → let lines = settings_reasons s ++ keeper_reasons s p q r in
+    (keeper_refusal s p q r ≡ lowest lines) × (ascending 0 lines ≡ true)
 
 -- a result as the paper gives it: the count, or the number of the refusal, and the remainder kept
 pub record Kept : Type 0 where

@@ -41,7 +41,11 @@ use Rattle.gmp_payload_type.specs.Types.{types_after, gate_open}
 use Rattle.gmp_payload_type.proofs.Laws.{open_off, types_off}
 use Rattle.gmp_sink.specs.declared.SinkState.{SinkState}
 use Rattle.gmp_sink.specs.declared.SinkResult.{SinkResult}
-use Rattle.gmp_sink.specs.Sink.{new_sink, sink_reasons, sink_refusal, handed, released, checked_in, standing_by, standing_after, word_after, state_after, with_types, frame_after, is_mended, mended_in, answer_meaning, sink_answer, sink_state, sink_mended, sink_handed, sink_out, SinkPromise, UncheckedAsBefore, CountsFollowed, AnyPort, OffAsBefore}
+use Rattle.gmp_sink.specs.Sink.{new_sink, sink_reasons, sink_refusal, NumbersAscend, handed, released, checked_in, standing_by, standing_after, word_after, state_after, with_types, frame_after, is_mended, mended_in, answer_meaning, sink_answer, sink_state, sink_mended, sink_handed, sink_out, SinkPromise, UncheckedAsBefore, CountsFollowed, AnyPort, OffAsBefore}
+
+pub numbers_ascend : NumbersAscend
+unfolding sink_refusal
+numbers_ascend s f o p = (refl, refl)
 
 -- What is known of a call that no number turns back. Its port is not among it: nothing that is done
 -- then looks at the port.

@@ -8,7 +8,7 @@ use Rattle.gmp_crc8.specs.Check.{passes}
 use Rattle.gmp_crc8.specs.Checked.{checked_word}
 use Rattle.gmp_settings.specs.declared.Settings.{Settings}
 use Rattle.gmp_settings.specs.Grid.{frame_bytes}
-use Rattle.refusals.specs.Table.{Reason, reason, lowest, Answer, accepted, refused, answer_by}
+use Rattle.refusals.specs.Table.{Reason, reason, lowest, ascending, Answer, accepted, refused, answer_by}
 use Rattle.gmp_refusal.specs.Refusal.{refusal_number}
 use Rattle.gmp_settings.specs.Settings.{settings_reasons, with_type_check}
 use Rattle.gmp_settings.specs.Patterns.{bad_patterns}
@@ -45,6 +45,13 @@ sink_reasons s frameLength outLength port =
 -- why a call is turned back, or 0
 unfoldable pub sink_refusal : Settings → ℕ → ℕ → ℕ → ℕ
 sink_refusal s frameLength outLength port = lowest (settings_reasons s ++ sink_reasons s frameLength outLength port)
+
+-- "the lowest number that applies is the answer": a call is turned back by the first line that
+-- applies, and the numbers of the lines ascend
+abbrev pub NumbersAscend : Type 0
+NumbersAscend = (s : Settings) (frameLength outLength port : ℕ)
+    → let lines = settings_reasons s ++ sink_reasons s frameLength outLength port in
+    (sink_refusal s frameLength outLength port ≡ lowest lines) × (ascending 0 lines ≡ true)
 
 -- "if a count is known, the client bytes at its places go to the start of the output buffer, else
 -- none"

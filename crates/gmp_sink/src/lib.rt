@@ -1,10 +1,11 @@
-// The sink: its state, what it answers, a new sink, that with mending off and with the type check
-// off all is as 01 says, that counts are followed whatever the types are, and that the port matters
-// to number 10 alone. The call that takes a frame is in the crate gmp_sink_call.
+// The sink: its state, what it answers, a new sink, that the numbers of its refusals ascend, that
+// with mending off and with the type check off all is as 01 says, that counts are followed whatever
+// the types are, and that the port matters to number 10 alone. The call that takes a frame is in
+// the crate gmp_sink_call.
 #![tactic(auto)]
 
 ghost use Rattle.std.specs.Prelude.{◌≡◌};
-ghost use Rattle.gmp_sink.specs.Sink.{new_sink, AnyPort, OffAsBefore, UncheckedAsBefore, CountsFollowed};
+ghost use Rattle.gmp_sink.specs.Sink.{new_sink, NumbersAscend, AnyPort, OffAsBefore, UncheckedAsBefore, CountsFollowed};
 
 use gmp_control::Followed;
 use gmp_payload_type::Types;
@@ -46,6 +47,12 @@ pub fn new_sink() -> SinkState
         types: gmp_payload_type::new_types(),
     }
 }
+
+// A call is turned back by the lowest number that applies.
+#[tactic(auto, using(crate::proofs::Laws::numbers_ascend))]
+pub fn numbers_ascend()
+    ensures { NumbersAscend }
+{}
 
 // But for number 10 the port has no part in what a call answers, mends and hands out, and in the
 // state and the output buffer after it.

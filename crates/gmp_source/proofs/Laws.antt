@@ -23,7 +23,11 @@ use Rattle.gmp_control.proofs.Laws.{word_back, word_bytes_lem}
 use Rattle.gmp_frame.specs.Frame.{control_of, psi_of, client_bytes}
 use Rattle.gmp_frame.proofs.Laws.{control_written, psi_written, client_taken_lem, length_frame}
 use Rattle.gmp_source.specs.declared.SourceState.{SourceState}
-use Rattle.gmp_source.specs.Source.{state_reasons, start_reasons, start_refusal, source_reasons, source_refusal, psi, control_bytes, written, next_state, source_state, source_frame}
+use Rattle.gmp_source.specs.Source.{state_reasons, start_reasons, start_refusal, source_reasons, source_refusal, NumbersAscend, psi, control_bytes, written, next_state, source_state, source_frame}
+
+pub numbers_ascend : NumbersAscend
+unfolding start_refusal source_refusal
+numbers_ascend = record { start = λ s first. (refl, refl); call = λ s z next c b. (refl, refl) }
 
 -- an accepted call
 pub record Accepted (s : Settings) (z : SourceState) (next clientLength bufferLength : ℕ) : Type 0 where

@@ -1,9 +1,9 @@
 -- The source (01, "Source and rate keeper", "Settings and the frame"). Assumes nothing.
-use Rattle.std.specs.Prelude.{◌≡◌, not, cond, List, [], ◌∷◌, ◌++◌, ℕ, ◌+◌, ◌%◌, eqb, length}
+use Rattle.std.specs.Prelude.{◌≡◌, not, cond, true, List, [], ◌∷◌, ◌++◌, ℕ, ◌+◌, ◌%◌, eqb, length}
 use Rattle.gmp_crc8.specs.Check.{remainder}
 use Rattle.gmp_settings.specs.declared.Settings.{Settings}
 use Rattle.gmp_settings.specs.Grid.{frame_bytes}
-use Rattle.refusals.specs.Table.{Reason, reason, lowest, Answer, accepted, refused, answer_by}
+use Rattle.refusals.specs.Table.{Reason, reason, lowest, ascending, Answer, accepted, refused, answer_by}
 use Rattle.gmp_refusal.specs.Refusal.{refusal_number, verdict_number}
 use Rattle.gmp_settings.specs.Settings.{settings_reasons, outside}
 use Rattle.gmp_settings.specs.Patterns.{bad_patterns}
@@ -60,6 +60,16 @@ source_reasons s z next clientLength bufferLength =
 -- why a call is turned back, or 0
 unfoldable pub source_refusal : Settings → SourceState → ℕ → ℕ → ℕ → ℕ
 source_refusal s z next clientLength bufferLength = lowest (settings_reasons s ++ source_reasons s z next clientLength bufferLength)
+
+-- "the lowest number that applies is the answer": a new source is refused, and a call is turned
+-- back, by the first line that applies, and the numbers of the lines ascend
+pub record NumbersAscend : Type 0 where
+  pub start : (s : Settings) (first : ℕ)
+      → let lines = settings_reasons s ++ start_reasons s first in
+      (start_refusal s first ≡ lowest lines) × (ascending 0 lines ≡ true)
+  pub call : (s : Settings) (z : SourceState) (next clientLength bufferLength : ℕ)
+      → let lines = settings_reasons s ++ source_reasons s z next clientLength bufferLength in
+      (source_refusal s z next clientLength bufferLength ≡ lowest lines) × (ascending 0 lines ≡ true)
 
 -- The multiframe number is 0 to 255; a larger number in a state is taken modulo 256.
 abbrev pub multiframe_number : SourceState → ℕ

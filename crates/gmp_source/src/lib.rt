@@ -1,11 +1,11 @@
-// The source: its state, what it answers, and a new source. The call that writes a frame is in the
-// crate gmp_source_call.
+// The source: its state, what it answers, that the numbers of its refusals ascend, and a new
+// source. The call that writes a frame is in the crate gmp_source_call.
 #![tactic(auto)]
 
 ghost use Rattle.std.specs.Prelude.{◌≡◌};
 ghost use Rattle.refusals.specs.Table.{lowest};
 ghost use Rattle.gmp_refusal.specs.Refusal.{verdict_number};
-ghost use Rattle.gmp_source.specs.Source.{state_reasons, start_refusal, new_source, start_meaning};
+ghost use Rattle.gmp_source.specs.Source.{state_reasons, start_refusal, NumbersAscend, new_source, start_meaning};
 
 use gmp_refusal::Refusal;
 use gmp_settings::Settings;
@@ -38,6 +38,12 @@ pub fn new_source(settings: Settings, first: u32, payload_type: u8) -> Result<So
         payload_type,
     })
 }
+
+// A new source is refused, and a call is turned back, by the lowest number that applies.
+#[tactic(auto, using(crate::proofs::Laws::numbers_ascend))]
+pub fn numbers_ascend()
+    ensures { NumbersAscend }
+{}
 
 // Numbers 1, 2, 5 and 14, for the first count of a new source.
 #[tactic(auto, unfolding(crate::specs::Source::start_refusal))]
