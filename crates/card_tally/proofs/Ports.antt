@@ -4,7 +4,7 @@ use mathlib.Core.Path.{◌≡◌, refl, sym, ap, ap₂, ◌∙◌}
 use mathlib.Core.Bool.{Bool, true, false}
 use Prim.Native.Nat.{ℕ, zero, suc, ◌+◌, ◌-◌, ◌*◌, ◌≤◌, ◌<◌}
 use native.Mathlib.Omega.{arith}
-use lib.ListN.{length, get_or, length-set}
+use lib.ListN.{length, get_or, set, length-set}
 use lib.Seq.{get_or-set_same, get_or-set_other}
 use Rattle.ports.specs.Port.{ports, bad_port}
 use Rattle.ports.proofs.Laws.{within_ports, good_port}
@@ -15,6 +15,17 @@ use Rattle.card_tally.specs.Tally.{largest, added}
 use Rattle.card_tally.specs.Ports.{no_tally, tally_of, counted, sum_to, total_by, total_of, Adds, Leaves, OwnPortOnly}
 
 module _ (y : Tallies) (p frames badcheck bytes : ℕ) where
+  -- a port that the card does not have changes nothing
+  pub counted_none : bad_port p ≡ true → counted y p frames badcheck bytes ≡ y
+  unfolding counted
+  counted_none e = rw e
+
+  -- one that it has changes the tally at its place
+  pub counted_at : bad_port p ≡ false → (i : ℕ) → i ≡ p - 1 → (t : Tally) → t ≡ added (get_or y.ports i no_tally) frames badcheck bytes
+      → record { ports = set y.ports i t } ≡ counted y p frames badcheck bytes
+  unfolding counted
+  counted_at e i place t f = rw (e, f, place)
+
   own : length y.ports ≡ ports → bad_port p ≡ false → Adds y p frames badcheck bytes
   unfolding counted
   own eight e =

@@ -10,7 +10,6 @@ use Rattle.gmp_settings.specs.Worked.{customer, one_bit_wrong}
 use Rattle.gmp_standing.specs.declared.Count.TheVariants.{Known}
 use Rattle.gmp_standing.specs.Standing.{READ, TRACKED, PAIRED, BADCHECK, WAITING}
 use Rattle.std.specs.Prelude.{Some}
-use Rattle.gmp_standing.specs.Standing.{READ, TRACKED, PAIRED, BADCHECK, WAITING}
 use Rattle.gmp_payload_type.specs.Types.{new_types}
 use Rattle.gmp_source.specs.declared.SourceState.{SourceState}
 use Rattle.gmp_source.specs.Source.{source_refusal, next_state}

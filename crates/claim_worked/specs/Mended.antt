@@ -8,7 +8,6 @@ use Rattle.gmp_settings.specs.Settings.{with_mending}
 use Rattle.gmp_standing.specs.declared.Count.TheVariants.{Known}
 use Rattle.gmp_standing.specs.Standing.{READ, TRACKED, PAIRED, BADCHECK, WAITING}
 use Rattle.std.specs.Prelude.{Some, None}
-use Rattle.gmp_standing.specs.Standing.{READ, TRACKED, PAIRED, BADCHECK, WAITING}
 use Rattle.gmp_control.specs.Word.{word_by}
 use Rattle.gmp_payload_type.specs.Types.{new_types}
 use Rattle.gmp_sink.specs.declared.SinkState.{SinkState}

@@ -7,7 +7,6 @@ use Rattle.gmp_settings.specs.Settings.{with_type_check}
 use Rattle.gmp_standing.specs.declared.Count.TheVariants.{Known}
 use Rattle.gmp_standing.specs.Standing.{READ, BADCHECK}
 use Rattle.std.specs.Prelude.{Some, None}
-use Rattle.gmp_standing.specs.Standing.{READ, BADCHECK}
 use Rattle.gmp_payload_type.specs.declared.Seen.TheVariants.{Once, Twice}
 use Rattle.gmp_sink.specs.declared.SinkState.{SinkState}
 use Rattle.gmp_sink.specs.Sink.{new_sink}
